@@ -1,0 +1,34 @@
+-- Lists of any length and content, as a caller lends them: a table of values, what a call writes, the lowest entry at fault.
+use mathlib.Core.Bool.{Bool, true, false, cond, _||_}
+use mathlib.Core.List.{List, [], _∷_, _++_}
+use Prim.Native.Nat.{ℕ, zero, suc, _+_, _-_}
+use lib.Dec.{leb, ltb}
+use lib.ListN.{length, getD, drop}
+
+-- f at j, j + 1, .., j + n − 1
+abbrev pub tab {ℓ} : {A : Type ℓ} → ℕ → ℕ → (ℕ → A) → List A
+tab j zero f = []
+tab j (suc n) f = f j ∷ tab (suc j) n f
+
+-- "Only an accepted call writes, and only the first entries it needs": the values xs over the first entries of what was there
+abbrev pub over {ℓ} : {A : Type ℓ} → List A → List A → List A
+over xs before = xs ++ drop (length xs) before
+
+-- the lowest of i, i + 1, .., i + n − 1 that is at fault, or i + n where none is
+unfoldable pub lowestFrom : ℕ → ℕ → (ℕ → Bool) → ℕ
+lowestFrom i zero fault = i
+lowestFrom i (suc n) fault = cond (fault i) i (lowestFrom (suc i) n fault)
+
+-- "the lowest at fault" of the first n entries, which count from 0 here; n where none is at fault
+unfoldable pub lowest : ℕ → (ℕ → Bool) → ℕ
+lowest n fault = lowestFrom 0 n fault
+
+-- a list is shorter than n
+unfoldable pub anyShorter : ℕ → List (List ℕ) → Bool
+anyShorter n [] = false
+anyShorter n (list ∷ lists) = ltb (length list) n || anyShorter n lists
+
+-- "strictly rising": entry i is not above the entry before it, so that of two out of order the later is at fault
+unfoldable pub notRising : List ℕ → ℕ → Bool
+notRising list zero = false
+notRising list (suc i) = leb (getD list (suc i) 0) (getD list i 0)

@@ -1,0 +1,1 @@
+// Lists that a caller lends: definitions alone (specs/), with no code.

@@ -1,0 +1,18 @@
+-- T1 to T11 hold of the definitions: every line of the bench table gives the figures that document 01 prints.
+use mathlib.Core.Path.{refl}
+use Rattle.lists.specs.Lists.{lowestFrom, lowest, anyShorter, notRising}
+use Rattle.rounding.specs.Nearest.{nearest}
+use Rattle.rounding.specs.Floor.{floorDiv}
+use Rattle.model.specs.Ranges.{outside, anyOutside}
+use Rattle.model.specs.Sheet.{startsWith, field, headerField, sectionEnd, rowCountAt, gaugeCountAt, sheetEnd, recordField, reachFields, reachOf, reachOn, reaches, rowStarts, rowConcentrations, gauges, totalSegments, segmentCount, alongRiver}
+use Rattle.model.specs.Flow.{courseOf, reachAt, gain, flow, discharge}
+use Rattle.model.specs.HalfStep.{ad, isLast, adAbove, adBelow, eOf, gOf, rateOf, numbers, loadedSegment}
+use Rattle.model.specs.Sweep.{P, N, F, R, rowOf, newStorage, newSediment, newFigures, downward, stepped}
+use Rattle.model.specs.State.{segmentAt, writeSegments, figuresAt, writeFigures}
+use Rattle.model.specs.Load.{unmarked, walk, startsLate, rowFault, gaugeFault, flowFault, faceFault, sumFault, sheetTests, courseTests, listTests, loadTests, loaded, loadAnswer, loadColumns}
+use Rattle.model.specs.Calls.{riverFault, segmentFault, figureFault, startFault, stateFault, heldFault, startTests, startAnswer, startState, stepTests, stepAnswer, stepState, stepWorking}
+use Rattle.model.specs.Bench.{bytes, allBytes, brook, zeros, noState, noWork, judged, slope, brook2, started2, bench, Agree}
+
+pub bench-holds : Agree bench
+unfolding lowestFrom lowest anyShorter notRising nearest floorDiv outside anyOutside startsWith field headerField sectionEnd rowCountAt gaugeCountAt sheetEnd recordField reachFields reachOf reachOn reaches rowStarts rowConcentrations gauges totalSegments segmentCount alongRiver courseOf reachAt gain flow discharge ad isLast adAbove adBelow eOf gOf rateOf numbers loadedSegment P N F R rowOf newStorage newSediment newFigures downward stepped segmentAt writeSegments figuresAt writeFigures unmarked walk startsLate rowFault gaugeFault flowFault faceFault sumFault sheetTests courseTests listTests loadTests loaded loadAnswer loadColumns riverFault segmentFault figureFault startFault stateFault heldFault startTests startAnswer startState stepTests stepAnswer stepState stepWorking bytes allBytes brook zeros noState noWork judged slope brook2 started2 bench
+bench-holds = (refl, (refl, (refl, (refl, (refl, (refl, (refl, (refl, (refl, (refl, (refl, tt)))))))))))

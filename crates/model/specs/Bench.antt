@@ -1,0 +1,93 @@
+-- Document 01, "Bench figures": T1 to T11 in one table. A line has the figures that the definitions give and those that
+-- document 01 prints; proofs/Bench shows of the whole table at once that they are the same.
+use mathlib.Core.Path.{_≡_}
+use mathlib.Core.List.{List, [], _∷_, _++_}
+use Prim.Native.Nat.{ℕ, _+_, _-_, _*_, _/_, _%_, _^_}
+use lib.ListN.{getD, replicate}
+use Rattle.rounding.specs.Nearest.{S, parts}
+use Rattle.model.specs.Sheet.{mark, reachOf}
+use Rattle.model.specs.Flow.{Course, courseOf, discharge}
+use Rattle.model.specs.HalfStep.{eOf}
+use Rattle.model.specs.State.{Columns, State}
+use Rattle.model.specs.Refusals.{Outcome, accepted, refused}
+use Rattle.model.specs.Load.{loadAnswer, loadColumns}
+use Rattle.model.specs.Calls.{Working, startState, stepState, stepWorking}
+
+-- a field's four bytes, and a sheet of such fields
+unfoldable pub bytes : ℕ → List ℕ
+bytes n = n % 256 ∷ n / 256 % 256 ∷ n / 65536 % 256 ∷ n / 16777216 % 256 ∷ []
+
+unfoldable pub allBytes : List ℕ → List ℕ
+allBytes [] = []
+allBytes (n ∷ ns) = bytes n ++ allBytes ns
+
+-- "Brook: one segment, dx 10, A 100, AS 100, D 50, M 1, interval 1, one boundary row, gauge 1; flows, rates, concentrations, RHO and
+-- Kd are 0 unless named." Q is the flow at the top, U the row's figure.
+unfoldable pub brook : (dt Q segments U : ℕ) → List ℕ
+brook dt Q segments U =
+    mark ++ allBytes
+    (dt ∷ 10 ∷ 1 ∷ 1 ∷ Q ∷
+    1 ∷ segments ∷ 50 ∷ 100 ∷ 100 ∷ replicate 12 0 ++
+    1 ∷ 0 ∷ U ∷
+    1 ∷ 1 ∷ [])
+
+-- lists of n zeros to lend
+unfoldable pub zeros : ℕ → Columns
+zeros n =
+    let x : List ℕ = replicate n 0 in
+    record { e = x; g = x; l = x; a = x; b = x; k = x; ks = x; h = x; m = x; s = x; cl = x; cb = x; kd = x; start = x }
+
+unfoldable pub noState : ℕ → State
+noState n = let x : List ℕ = replicate n 0 in record { channel = x; storage = x; sediment = x; upstream = 0; steps = 0 }
+
+unfoldable pub noWork : ℕ → Working
+noWork n = record { p = replicate n 0; y = replicate n 0 }
+
+-- the number of a refusal, if there is one
+abbrev pub refusal : {A : Type 0} → Outcome A → List ℕ
+refusal (accepted v) = []
+refusal (refused number place) = number ∷ []
+
+-- a brook of one segment: its answer
+unfoldable pub judged : (dt Q : ℕ) → List ℕ
+judged dt Q = refusal (loadAnswer (brook dt Q 1 0) 1 (zeros 1))
+
+-- T4 and T5: three segments with qin 0 and qout 4,545, dx 1,000, below a flow of 1,000
+unfoldable pub slope : Course
+slope = record { dt = 1; dx = 1000; top = 1000; river = replicate 3 (reachOf (λ k. getD (replicate 6 0 ++ 4545 ∷ []) k 0)) }
+
+-- T10 and T11: "brook, dt 1, Q 0, two segments, start 0, U 3,000 throughout", loaded, started and stepped once
+unfoldable pub brook2 : Columns
+brook2 = loadColumns (brook 1 0 2 3000) 1 (zeros 2)
+
+unfoldable pub started2 : State
+started2 = startState 2 brook2 (noState 2) 3000
+
+pub record Line : Type 0 where
+  pub number : ℕ
+  pub given : List ℕ
+  pub printed : List ℕ
+
+unfoldable pub bench : List Line
+bench =
+    -- "the fraction 1/3", "1/2^31", "0"
+    record { number = 1; given = parts 1 3 ∷ []; printed = 357913941 ∷ [] } ∷
+    record { number = 2; given = parts 1 (2 ^ 31) ∷ []; printed = 1 ∷ [] } ∷
+    record { number = 3; given = parts 0 1 ∷ []; printed = 0 ∷ [] } ∷
+    -- "segment 2 has the top flow less 46", "segment 3: less 91"
+    record { number = 4; given = discharge slope 1 ∷ []; printed = (1000 - 46) ∷ [] } ∷
+    record { number = 5; given = discharge slope 2 ∷ []; printed = (1000 - 91) ∷ [] } ∷
+    -- "e is one whole, accepted"; "refused 12"; "refused 11"; "refused 11"
+    record { number = 6; given = eOf (courseOf (brook 2 1000 1 0)) 0 ∷ judged 2 1000; printed = S ∷ [] } ∷
+    record { number = 7; given = judged 3 1000; printed = 12 ∷ [] } ∷
+    record { number = 8; given = judged 2 1001; printed = 11 ∷ [] } ∷
+    record { number = 9; given = judged 3 1001; printed = 11 ∷ [] } ∷
+    -- "after one step C is 1,035 and 207"; "there p of segment 1 is 178,956,971"
+    record { number = 10; given = stepState 2 brook2 started2 (noWork 2) 3000 1 .channel; printed = 1035 ∷ 207 ∷ [] } ∷
+    record { number = 11; given = getD (stepWorking 2 brook2 started2 (noWork 2) 3000 1 .p) 0 0 ∷ []; printed = 178956971 ∷ [] } ∷
+    []
+
+-- every line of a table gives the figures that are printed
+abbrev pub Agree : List Line → Type 0
+Agree [] = Unit {0}
+Agree (line ∷ lines) = (line .given ≡ line .printed) × Agree lines

@@ -1,0 +1,133 @@
+-- Start, step and report: their tests 13 to 15, their answers, and the later content of the lists that they are lent.
+use mathlib.Core.Bool.{Bool, true, false, not, _&&_, _||_}
+use mathlib.Core.List.{List, [], _∷_, _++_, map}
+use Prim.Native.Nat.{ℕ, suc, _+_, _-_, _*_}
+use lib.Dec.{eqb, ltb, leb}
+use Rattle.lists.specs.Lists.{over, anyShorter}
+use Rattle.model.specs.Ranges.{_to_, outside, concentration, highest, mostKd, mostSteps, mostSegments}
+use Rattle.model.specs.HalfStep.{Numbers, Segment}
+use Rattle.model.specs.Equations.{Figures}
+use Rattle.model.specs.Sweep.{Passed, downward, stepped}
+use Rattle.model.specs.State.{Columns, columnLists, segmentAt, segmentsOf, State, stateLists, figuresAt, figuresOf, writeFigures}
+use Rattle.model.specs.Refusals.{segment, Outcome, accepted, refused, isAccepted, Finding, test, testEach, judge}
+use Rattle.model.specs.Load.{sumFault}
+
+-- 13. "A lent list is shorter than the river .., or the river has no segment or over 1,024"
+unfoldable pub riverFault : (n : ℕ) → List (List ℕ) → Bool
+riverFault n lists = outside (1 to mostSegments) n || anyShorter n lists
+
+-- 14. of a segment's lists: "A half-step sum (T, V or h) exceeds one whole, the last g is not 0, Kd exceeds 1,000, a concentration
+-- exceeds its limit"
+unfoldable pub segmentFault : (isLast : Bool) → Segment → Bool
+segmentFault isLast x =
+    sumFault (x .numbers) || (isLast && not (eqb (x .numbers .g) 0)) || ltb mostKd (x .kd)
+    || outside concentration (x .cl) || outside concentration (x .cb) || outside concentration (x .start)
+
+-- 14. of a segment's state
+unfoldable pub figureFault : Figures → Bool
+figureFault f = outside concentration (f .c) || outside concentration (f .z) || outside concentration (f .w)
+
+-- segment i of n as lent to a start, which looks at no figure that it overwrites
+unfoldable pub startFault : (n : ℕ) → Columns → ℕ → Bool
+startFault n columns i = segmentFault (eqb (suc i) n) (segmentAt columns i)
+
+-- segment i of n as lent to a step or a report
+unfoldable pub stateFault : (n : ℕ) → Columns → State → ℕ → Bool
+stateFault n columns state i = startFault n columns i || figureFault (figuresAt state i)
+
+-- 14. "nothing for U, U', M or the count, which are looked at after all segments": of the state
+unfoldable pub heldFault : State → Bool
+heldFault state = outside concentration (state .upstream) || ltb mostSteps (state .steps)
+
+-- what an accepted start or step hands back: U and the count of steps done
+pub record River : Type 0 where
+  pub upstream : ℕ
+  pub steps : ℕ
+
+-- ---- "A start sets C, Z and W to the start figure, U to that of step 0 and the count to 0."
+
+-- "a start .. 13 then 14"; u is "U at step 0"
+unfoldable pub startTests : (n : ℕ) → Columns → State → (u : ℕ) → List Finding
+startTests n columns state u =
+    test 13 (riverFault n (columnLists columns ++ stateLists state)) ∷
+    testEach 14 segment n (startFault n columns) ∷
+    test 14 (outside concentration u) ∷
+    []
+
+unfoldable pub startAnswer : (n : ℕ) → Columns → State → (u : ℕ) → Outcome River
+startAnswer n columns state u = judge (startTests n columns state u) (record { upstream = u; steps = 0 })
+
+abbrev pub startFigures : Segment → Figures
+startFigures x = record { c = x .start; z = x .start; w = x .start }
+
+abbrev pub stateAfterStart : Outcome River → (n : ℕ) → Columns → State → State
+stateAfterStart (accepted v) n columns state = writeFigures (map startFigures (segmentsOf n columns)) (v .upstream) (v .steps) state
+stateAfterStart (refused number place) n columns state = state
+
+-- the state afterwards
+unfoldable pub startState : (n : ℕ) → Columns → State → (u : ℕ) → State
+startState n columns state u = stateAfterStart (startAnswer n columns state u) n columns state
+
+-- ---- a step: "handed .. U' and M"
+
+-- the two working lists, p and y
+pub record Working : Type 0 where
+  pub p : List ℕ
+  pub y : List ℕ
+
+-- "a step 13 to 15"
+unfoldable pub stepTests : (n : ℕ) → Columns → State → Working → (u′ M : ℕ) → List Finding
+stepTests n columns state working u′ M =
+    test 13 (riverFault n (columnLists columns ++ stateLists state ++ working .p ∷ working .y ∷ [])) ∷
+    testEach 14 segment n (stateFault n columns state) ∷
+    test 14 (heldFault state || outside concentration u′ || ltb mostSteps M) ∷
+    test 15 (leb M (state .steps)) ∷
+    []
+
+-- "After a step the state's U is that step's U'."
+unfoldable pub stepAnswer : (n : ℕ) → Columns → State → Working → (u′ M : ℕ) → Outcome River
+stepAnswer n columns state working u′ M =
+    judge (stepTests n columns state working u′ M) (record { upstream = u′; steps = suc (state .steps) })
+
+abbrev pub stateAfterStep : Outcome River → (n : ℕ) → Columns → State → State
+stateAfterStep (accepted v) n columns state =
+    writeFigures (stepped (state .upstream) (v .upstream) (segmentsOf n columns) (figuresOf n state)) (v .upstream) (v .steps) state
+stateAfterStep (refused number place) n columns state = state
+
+-- the state afterwards
+unfoldable pub stepState : (n : ℕ) → Columns → State → Working → (u′ M : ℕ) → State
+stepState n columns state working u′ M = stateAfterStep (stepAnswer n columns state working u′ M) n columns state
+
+-- the working lists afterwards: p and y of the downward pass over their first entries
+abbrev pub workingAfterStep : Outcome River → (n : ℕ) → Columns → State → Working → Working
+workingAfterStep (accepted v) n columns state working =
+    let passed = downward (state .upstream) (v .upstream) (segmentsOf n columns) (figuresOf n state) in
+    record { p = over (map (λ x. x .p) passed) (working .p); y = over (map (λ x. x .y) passed) (working .y) }
+workingAfterStep (refused number place) n columns state working = working
+
+unfoldable pub stepWorking : (n : ℕ) → Columns → State → Working → (u′ M : ℕ) → Working
+stepWorking n columns state working u′ M = workingAfterStep (stepAnswer n columns state working u′ M) n columns state working
+
+-- ---- a report: "a segment, for which it gives C, Z and Kd × W"; segments count from 1
+
+pub record Reported : Type 0 where
+  pub channel : ℕ
+  pub storage : ℕ
+  pub sediment : ℕ
+
+-- "a .. report 13 then 14"; 13 also where "a report's segment is not in it"
+unfoldable pub reportTests : (n : ℕ) → Columns → State → (number : ℕ) → List Finding
+reportTests n columns state number =
+    test 13 (riverFault n (columnLists columns ++ stateLists state) || outside (1 to n) number) ∷
+    testEach 14 segment n (stateFault n columns state) ∷
+    test 14 (heldFault state) ∷
+    []
+
+unfoldable pub reported : Columns → State → ℕ → Reported
+reported columns state i =
+    let f = figuresAt state i in
+    record { channel = f .c; storage = f .z; sediment = segmentAt columns i .kd * f .w }
+
+-- the answer; nothing is written
+unfoldable pub reportAnswer : (n : ℕ) → Columns → State → (number : ℕ) → Outcome Reported
+reportAnswer n columns state number = judge (reportTests n columns state number) (reported columns state (number - 1))

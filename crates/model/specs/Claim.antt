@@ -1,0 +1,61 @@
+-- Demand 3, "one claim about the whole list and not one for each call".
+use mathlib.Core.Path.{_≡_}
+use mathlib.Core.List.{List, [], _∷_}
+use Prim.Native.Nat.{ℕ, _-_, _*_}
+use lib.Dec.{T}
+use Rattle.fractions.specs.Fractions.{Fraction, Same, Within, _·_}
+use Rattle.model.specs.Sheet.{segmentCount}
+use Rattle.model.specs.HalfStep.{Segment}
+use Rattle.model.specs.Equations.{Figures}
+use Rattle.model.specs.ExactRiver.{ExactFigures}
+use Rattle.model.specs.State.{Columns, loadedSegments, State, figuresOf}
+use Rattle.model.specs.Refusals.{Outcome, accepted}
+use Rattle.model.specs.Load.{Loaded, loadAnswer}
+use Rattle.model.specs.Calls.{Reported, reportAnswer, reported}
+use Rattle.model.specs.Runs.{Lent, Call, start, accepts, run, AsLoaded, Fed, events, Exact, noRiver, ExactRun}
+
+-- two lists "hold the same figures", segment by segment
+pub data SameFigures : List ExactFigures → List ExactFigures → Type 0 where
+  none : SameFigures [] []
+  cons : {f g : ExactFigures} {fs gs : List ExactFigures} → Same (f .c) (g .c) → Same (f .z) (g .z) → Same (f .w) (g .w) →
+      SameFigures fs gs → SameFigures (f ∷ fs) (g ∷ gs)
+
+-- the same at each step before
+pub data SamePast : List (List ExactFigures) → List (List ExactFigures) → Type 0 where
+  none : SamePast [] []
+  cons : {fs gs : List ExactFigures} {before before′ : List (List ExactFigures)} → SameFigures fs gs → SamePast before before′ →
+      SamePast (fs ∷ before) (gs ∷ before′)
+
+-- "the state's C and Z differ either way by at most" k "from the exact ones, and Kd × W by at most" k × Kd "from Kd times the exact
+-- W", in every segment
+pub data Near (k : ℕ) : List Segment → List Figures → List ExactFigures → Type 0 where
+  none : Near k [] [] []
+  cons : {x : Segment} {f : Figures} {q : ExactFigures} {xs : List Segment} {fs : List Figures} {qs : List ExactFigures} →
+      Within k (f .c) (q .c) → Within k (f .z) (q .z) → Within (k * x .kd) (x .kd * f .w) (x .kd · q .w) →
+      Near k xs fs qs → Near k (x ∷ xs) (f ∷ fs) (q ∷ qs)
+
+-- after a list of calls from a state, on a river of this sheet
+pub record Holds (sheet : List ℕ) (before : State) (calls : List Call) : Type 0 where
+  -- "Such fractions always exist"
+  pub exists : (q : Exact) × ExactRun (loadedSegments sheet) noRiver (events before calls) q
+  -- "any two lists of them, for all segments at steps 0 to n, hold the same figures"
+  pub unique : (q r : Exact) → ExactRun (loadedSegments sheet) noRiver (events before calls) q →
+      ExactRun (loadedSegments sheet) noRiver (events before calls) r →
+      (SameFigures (q .now) (r .now)) × (SamePast (q .past) (r .past))
+  -- "n counts the steps accepted since the latest accepted start, and the state's count equals it"
+  pub counted : (q : Exact) → ExactRun (loadedSegments sheet) noRiver (events before calls) q → run before calls .steps ≡ q .n
+  -- "After the list, in every segment, .. at most 6 × n .. at most 6 × n × Kd"
+  pub near : (q : Exact) → ExactRun (loadedSegments sheet) noRiver (events before calls) q →
+      Near (6 * q .n) (loadedSegments sheet) (figuresOf (segmentCount sheet) (run before calls)) (q .now)
+  -- "an accepted report made then gives these figures of the state"
+  pub reports : (lent : Lent) (number : ℕ) (v : Reported) → AsLoaded sheet lent →
+      reportAnswer (lent .count) (lent .columns) (run before calls) number ≡ accepted v →
+      v ≡ reported (lent .columns) (run before calls) (number - 1)
+
+-- "A run is one accepted loading, one accepted start into lists of any content, then any list of starts, steps and reports, refused
+-- ones included."
+abbrev pub Demand3 : Type 0
+Demand3 =
+    (sheet : List ℕ) (records : ℕ) (columns : Columns) (v : Loaded) → loadAnswer sheet records columns ≡ accepted v →
+    (before : State) (lent : Lent) (u : ℕ) (calls : List Call) → T (accepts before (start lent u)) →
+    Fed sheet before (start lent u ∷ calls) → Holds sheet before (start lent u ∷ calls)

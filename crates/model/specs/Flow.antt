@@ -1,0 +1,39 @@
+-- Document 01, "Flow and half-step numbers": the flow of each segment.
+use mathlib.Core.List.{List}
+use Prim.Native.Nat.{ℕ, zero, suc}
+use lib.IntN.{ℤ, pos, negsuc, _+ℤ_, _-ℤ_, _*ℤ_}
+use lib.ListN.{getD}
+use Rattle.rounding.specs.Floor.{floorDiv}
+use Rattle.model.specs.Sheet.{Reach, reachOf, dt, dx, topFlow, reaches, alongRiver}
+
+-- what the half-step numbers are worked out from: dt, dx, the flow at the top and the reach of each segment
+pub record Course : Type 0 where
+  pub dt : ℕ
+  pub dx : ℕ
+  pub top : ℕ
+  pub river : List Reach
+
+unfoldable pub courseOf : List ℕ → Course
+courseOf sheet = record { dt = dt sheet; dx = dx sheet; top = topFlow sheet; river = alongRiver (reaches sheet) }
+
+-- the reach of segment i; past the last segment, where nothing is read, a reach of zeros
+unfoldable pub reachAt : Course → ℕ → Reach
+reachAt course i = getD (course .river) i (reachOf (λ k. 0))
+
+-- "the sum, over the segments before it, of (qin − qout) × dx"
+unfoldable pub gain : Course → ℕ → ℤ
+gain course zero = pos 0
+gain course (suc i) = gain course i +ℤ (pos (reachAt course i .qin) -ℤ pos (reachAt course i .qout)) *ℤ pos (course .dx)
+
+-- "Segment i's flow Q is the top flow plus the net gain, which is the sum .. / 100,000; the net gain can be negative and is
+-- rounded down once."
+unfoldable pub flow : Course → ℕ → ℤ
+flow course i = pos (course .top) +ℤ floorDiv (gain course i) 100000
+
+-- Q as the formulas read it: a flow below 0 is refused (10) before any of them is used
+abbrev pub natural : ℤ → ℕ
+natural (pos n) = n
+natural (negsuc n) = 0
+
+unfoldable pub discharge : Course → ℕ → ℕ
+discharge course i = natural (flow course i)

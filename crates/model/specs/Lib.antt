@@ -1,0 +1,16 @@
+pub mod Ranges
+pub mod Sheet
+pub mod Flow
+pub mod HalfStep
+pub mod Equations
+pub mod Sweep
+pub mod TwoSets
+pub mod ExactRiver
+pub mod State
+pub mod Refusals
+pub mod Load
+pub mod Upstream
+pub mod Calls
+pub mod Runs
+pub mod Claim
+pub mod Bench

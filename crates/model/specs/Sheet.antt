@@ -1,0 +1,161 @@
+-- Document 01, "The river sheet": where each field stands on a sheet marked OTR1, and what is read there.
+-- A sheet is its list of bytes. Reaches, rows and gauges count from 1 in document 01 and from 0 here; places count from 1.
+use mathlib.Core.Bool.{Bool, true, false, not, _&&_}
+use mathlib.Core.List.{List, [], _∷_, _++_}
+use Prim.Native.Nat.{ℕ, zero, suc, _+_, _*_}
+use lib.Dec.{eqb, leb}
+use lib.ListN.{getD, replicate, length}
+use Rattle.lists.specs.Lists.{tab}
+use Rattle.model.specs.Ranges.{Section, reachSection, rowSection, gaugeSection}
+
+-- "A sheet starts with the four bytes OTR1"
+abbrev pub mark : List ℕ
+mark = 79 ∷ 84 ∷ 82 ∷ 49 ∷ []
+
+-- the sheet starts with these bytes
+unfoldable pub startsWith : List ℕ → List ℕ → Bool
+startsWith [] sheet = true
+startsWith (byte ∷ bytes) [] = false
+startsWith (byte ∷ bytes) (b ∷ sheet) = eqb b byte && startsWith bytes sheet
+
+-- "All fields are unsigned 32-bit, little-endian": the field whose first byte is byte number `at`, from 0 at the mark
+unfoldable pub field : List ℕ → ℕ → ℕ
+field sheet at = getD sheet at 0 + 256 * getD sheet (at + 1) 0 + 65536 * getD sheet (at + 2) 0 + 16777216 * getD sheet (at + 3) 0
+
+-- field k of the header, which follows the mark and has five fields
+unfoldable pub headerField : List ℕ → ℕ → ℕ
+headerField sheet k = field sheet (4 + 4 * k)
+
+abbrev pub headerWidth : ℕ
+headerWidth = 5
+
+abbrev pub dt : List ℕ → ℕ
+dt sheet = headerField sheet 0
+
+abbrev pub dx : List ℕ → ℕ
+dx sheet = headerField sheet 1
+
+-- M
+abbrev pub stepsM : List ℕ → ℕ
+stepsM sheet = headerField sheet 2
+
+abbrev pub interval : List ℕ → ℕ
+interval sheet = headerField sheet 3
+
+abbrev pub topFlow : List ℕ → ℕ
+topFlow sheet = headerField sheet 4
+
+abbrev pub header : List ℕ → List ℕ
+header sheet = tab 0 headerWidth (headerField sheet)
+
+-- where a section whose count stands at `at` ends
+unfoldable pub sectionEnd : List ℕ → ℕ → Section → ℕ
+sectionEnd sheet at section = at + 4 + 4 * (section .width * field sheet at)
+
+-- where the counts stand: that of reaches behind the header, each other one behind the section before it
+abbrev pub reachCountAt : ℕ
+reachCountAt = 4 + 4 * headerWidth
+
+unfoldable pub rowCountAt : List ℕ → ℕ
+rowCountAt sheet = sectionEnd sheet reachCountAt reachSection
+
+unfoldable pub gaugeCountAt : List ℕ → ℕ
+gaugeCountAt sheet = sectionEnd sheet (rowCountAt sheet) rowSection
+
+-- behind the last gauge
+unfoldable pub sheetEnd : List ℕ → ℕ
+sheetEnd sheet = sectionEnd sheet (gaugeCountAt sheet) gaugeSection
+
+abbrev pub reachCount : List ℕ → ℕ
+reachCount sheet = field sheet reachCountAt
+
+abbrev pub rowCount : List ℕ → ℕ
+rowCount sheet = field sheet (rowCountAt sheet)
+
+abbrev pub gaugeCount : List ℕ → ℕ
+gaugeCount sheet = field sheet (gaugeCountAt sheet)
+
+-- where the rows and the gauges begin on the sheet: the first byte behind their count
+abbrev pub rowsAt : List ℕ → ℕ
+rowsAt sheet = rowCountAt sheet + 4
+
+abbrev pub gaugesAt : List ℕ → ℕ
+gaugesAt sheet = gaugeCountAt sheet + 4
+
+-- field k of record i of a section whose count stands at `at`
+unfoldable pub recordField : List ℕ → ℕ → Section → ℕ → ℕ → ℕ
+recordField sheet at section i k = field sheet (at + 4 + 4 * (section .width * i + k))
+
+-- a reach record, its 16 fields in the sheet's order
+pub record Reach : Type 0 where
+  pub segments : ℕ
+  pub dispersion : ℕ
+  pub area : ℕ
+  pub area2 : ℕ
+  pub alpha : ℕ
+  pub qin : ℕ
+  pub qout : ℕ
+  pub cl : ℕ
+  pub lambda : ℕ
+  pub lambda2 : ℕ
+  pub lamhat : ℕ
+  pub lamhat2 : ℕ
+  pub rho : ℕ
+  pub kd : ℕ
+  pub cb : ℕ
+  pub start : ℕ
+
+unfoldable pub reachFields : List ℕ → ℕ → List ℕ
+reachFields sheet i = tab 0 (reachSection .width) (recordField sheet reachCountAt reachSection i)
+
+-- the record that sixteen fields make
+unfoldable pub reachOf : (ℕ → ℕ) → Reach
+reachOf f = record {
+  segments = f 0;
+  dispersion = f 1;
+  area = f 2;
+  area2 = f 3;
+  alpha = f 4;
+  qin = f 5;
+  qout = f 6;
+  cl = f 7;
+  lambda = f 8;
+  lambda2 = f 9;
+  lamhat = f 10;
+  lamhat2 = f 11;
+  rho = f 12;
+  kd = f 13;
+  cb = f 14;
+  start = f 15;
+}
+
+unfoldable pub reachOn : List ℕ → ℕ → Reach
+reachOn sheet i = reachOf (recordField sheet reachCountAt reachSection i)
+
+-- the reaches, in the sheet's order
+unfoldable pub reaches : List ℕ → List Reach
+reaches sheet = tab 0 (reachCount sheet) (reachOn sheet)
+
+-- boundary rows: start steps and concentrations
+unfoldable pub rowStarts : List ℕ → List ℕ
+rowStarts sheet = tab 0 (rowCount sheet) (λ j. recordField sheet (rowCountAt sheet) rowSection j 0)
+
+unfoldable pub rowConcentrations : List ℕ → List ℕ
+rowConcentrations sheet = tab 0 (rowCount sheet) (λ j. recordField sheet (rowCountAt sheet) rowSection j 1)
+
+-- gauges: segment numbers
+unfoldable pub gauges : List ℕ → List ℕ
+gauges sheet = tab 0 (gaugeCount sheet) (λ j. recordField sheet (gaugeCountAt sheet) gaugeSection j 0)
+
+-- the segments of all reaches together
+unfoldable pub totalSegments : List Reach → ℕ
+totalSegments [] = 0
+totalSegments (r ∷ rs) = r .segments + totalSegments rs
+
+unfoldable pub segmentCount : List ℕ → ℕ
+segmentCount sheet = totalSegments (reaches sheet)
+
+-- "Segments count from 1 at the top": the reach of each segment, from the top down
+unfoldable pub alongRiver : List Reach → List Reach
+alongRiver [] = []
+alongRiver (r ∷ rs) = replicate (r .segments) r ++ alongRiver rs
