@@ -75,8 +75,8 @@ bench =
     record { number = 2; given = parts 1 (2 ^ 31) ∷ []; printed = 1 ∷ [] } ∷
     record { number = 3; given = parts 0 1 ∷ []; printed = 0 ∷ [] } ∷
     -- "segment 2 has the top flow less 46", "segment 3: less 91"
-    record { number = 4; given = discharge slope 1 ∷ []; printed = (1000 - 46) ∷ [] } ∷
-    record { number = 5; given = discharge slope 2 ∷ []; printed = (1000 - 91) ∷ [] } ∷
+    record { number = 4; given = (1000 - discharge slope 1) ∷ []; printed = 46 ∷ [] } ∷
+    record { number = 5; given = (1000 - discharge slope 2) ∷ []; printed = 91 ∷ [] } ∷
     -- "e is one whole, accepted"; "refused 12"; "refused 11"; "refused 11"
     record { number = 6; given = eOf (courseOf (brook 2 1000 1 0)) 0 ∷ judged 2 1000; printed = S ∷ [] } ∷
     record { number = 7; given = judged 3 1000; printed = 12 ∷ [] } ∷
