@@ -1,2 +1,4 @@
+pub mod Ranges
+pub mod Refusals
 pub mod Bench
 pub mod TwoSets

@@ -1,0 +1,4 @@
+pub mod Lowest
+pub mod Tab
+pub mod Over
+pub mod Shorter

@@ -1,0 +1,78 @@
+-- Laws of tests in a row: what is known where they pass, and where the first of two rows fails.
+use mathlib.Core.Path.{_≡_, refl, sym, ap, _∙_}
+use mathlib.Core.Bool.{Bool, true, false, cond}
+use mathlib.Core.List.{List, [], _∷_, _++_}
+use Prim.Native.Nat.{ℕ, suc, _<_, _≤_}
+use native.Mathlib.Omega.{arith}
+use borrow.Author.Tests.{ltb-false, lt-ltb, le-ltb}
+use lib.Dec.{T, ltb}
+use Rattle.lists.specs.Lists.{lowest}
+use Rattle.lists.proofs.Lowest.{none-at-fault, lowest-end}
+use Rattle.model.specs.Refusals.{Place, nothing, Finding, passes, fails, Outcome, accepted, refused, isAccepted, test, testEach, first, answer, judge}
+
+-- a test that fails does not pass
+pub fails-passes : {A : Type 0} {number : ℕ} {place : Place} → fails number place ≡ passes → A
+fails-passes {A} {number} {place} e = let z : _≡_ {A = ℕ} 0 1 = cc in absurd (omega arith)
+
+-- every test of a row passes
+abbrev pub AllPass : List Finding → Type 0
+AllPass [] = Unit {0}
+AllPass (t ∷ ts) = (t ≡ passes) × AllPass ts
+
+pub all-pass : (ts : List Finding) → first ts ≡ passes → AllPass ts
+all-pass [] e = tt
+all-pass (passes ∷ ts) e = (refl, all-pass ts e)
+all-pass (fails number place ∷ ts) e = fails-passes e
+
+-- a row of which the front passes, and one of which the front fails
+pub first-rest : (ts us : List Finding) → first ts ≡ passes → first (ts ++ us) ≡ first us
+first-rest [] us e = refl
+first-rest (passes ∷ ts) us e = first-rest ts us e
+first-rest (fails number place ∷ ts) us e = fails-passes e
+
+pub first-front : (ts us : List Finding) {number : ℕ} {place : Place} → first ts ≡ fails number place → first (ts ++ us) ≡ fails number place
+first-front [] us e = fails-passes (sym e)
+first-front (passes ∷ ts) us e = first-front ts us e
+first-front (fails number place ∷ ts) us e = e
+
+-- where two rows together pass, both do
+pub first-both : (ts us : List Finding) → first (ts ++ us) ≡ passes → (first ts ≡ passes) × (first us ≡ passes)
+first-both [] us e = (refl, e)
+first-both (passes ∷ ts) us e = first-both ts us e
+first-both (fails number place ∷ ts) us e = fails-passes e
+
+-- a test that passes finds no fault
+pub test-clear : (number : ℕ) (fault : Bool) → test number fault ≡ passes → fault ≡ false
+test-clear number true e = fails-passes e
+test-clear number false e = refl
+
+clear : (number : ℕ) (place : Place) (t : Bool) → cond t (fails number place) passes ≡ passes → t ≡ false
+clear number place true e = fails-passes e
+clear number place false e = refl
+
+-- a test over n that passes finds no fault at any of them
+pub each-clear : (number : ℕ) (place : ℕ → Place) (n : ℕ) (fault : ℕ → Bool) → testEach number place n fault ≡ passes →
+    (i : ℕ) → i < n → fault i ≡ false
+each-clear number place n fault e = none-at-fault fault n (ltb-false _ _ (clear number _ (ltb (lowest n fault) n) e))
+
+-- the test passes where none is at fault, and fails at the lowest
+pub each-passes : (number : ℕ) (place : ℕ → Place) (n : ℕ) (fault : ℕ → Bool) → n ≤ lowest n fault → testEach number place n fault ≡ passes
+each-passes number place n fault h = rw (le-ltb _ _ h)
+
+pub each-fails : (number : ℕ) (place : ℕ → Place) (n : ℕ) (fault : ℕ → Bool) → lowest n fault < n →
+    testEach number place n fault ≡ fails number (place (suc (lowest n fault)))
+each-fails number place n fault h = rw (lt-ltb _ _ h)
+
+-- an accepted call: all its tests pass, and its values are those it was judged with
+pub accepted-passes : {A : Type 0} (ts : List Finding) (v : A) → T (isAccepted (judge ts v)) → first ts ≡ passes
+accepted-passes ts v h = go (first ts) refl h
+  where
+    go : (t : Finding) → first ts ≡ t → T (isAccepted (answer t v)) → first ts ≡ passes
+    go passes e h = e
+    go (fails number place) e h = absurd h
+
+pub judge-passes : {A : Type 0} (ts : List Finding) (v : A) → first ts ≡ passes → judge ts v ≡ accepted v
+judge-passes ts v e = ap (λ t. answer t v) e
+
+pub judge-fails : {A : Type 0} (ts : List Finding) (v : A) {number : ℕ} {place : Place} → first ts ≡ fails number place → judge ts v ≡ refused number place
+judge-fails ts v e = ap (λ t. answer t v) e
