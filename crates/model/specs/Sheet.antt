@@ -86,7 +86,7 @@ gaugesAt sheet = gaugeCountAt sheet + 4
 unfoldable pub recordField : List ℕ → ℕ → Section → ℕ → ℕ → ℕ
 recordField sheet at section i k = field sheet (at + 4 + 4 * (section .width * i + k))
 
--- a reach record, its 16 fields in the sheet's order
+-- a reach record, its 16 fields in the sheet's order: D is `dispersion`, A `area`, AS `area2` (the report's AREA2), CL `cl`, CB `cb`
 pub record Reach : Type 0 where
   pub segments : ℕ
   pub dispersion : ℕ

@@ -1,5 +1,6 @@
--- The sweep for two sets of half-step numbers, an old one for the right sides and a new one for the left: `2l` and `2m` are the
--- old number plus the new, and P and N divide by the new sums. Document 01's sweep is the case old = new (proofs/TwoSets).
+-- The sweep for two sets of half-step numbers, an old one for the right sides and a new one for the left (request 1 of document 02):
+-- "P and N divide the old numerator by the new S+V and S+h. In R, aP, sN and eU' take the new numbers; 2l and 2m become the old number
+-- plus the new." Document 01's sweep is the case old = new (proofs/TwoSets).
 use mathlib.Core.List.{List}
 use Prim.Native.Nat.{ℕ, _+_, _-_, _*_}
 use Rattle.rounding.specs.Nearest.{S, nearest}
