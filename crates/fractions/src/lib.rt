@@ -1,1 +1,1 @@
-// Fractions as document 01 reads them: definitions alone (specs/), with no code.
+// Fractions as document 01 reads them (specs/), and their laws over a common denominator (proofs/), with no code.

@@ -76,3 +76,11 @@ judge-passes ts v e = ap (λ t. answer t v) e
 
 pub judge-fails : {A : Type 0} (ts : List Finding) (v : A) {number : ℕ} {place : Place} → first ts ≡ fails number place → judge ts v ≡ refused number place
 judge-fails ts v e = ap (λ t. answer t v) e
+
+-- the values of an accepted call are those that it was judged with
+pub accepted-values : {A : Type 0} (ts : List Finding) (v w : A) → judge ts v ≡ accepted w → v ≡ w
+accepted-values ts v w e = go (first ts) e
+  where
+    go : (t : Finding) → answer t v ≡ accepted w → v ≡ w
+    go passes e = cc
+    go (fails number place) e = cc

@@ -10,7 +10,7 @@ use Rattle.model.specs.Equations.{Figures}
 use Rattle.model.specs.ExactRiver.{ExactFigures}
 use Rattle.model.specs.State.{Columns, loadedSegments, State, figuresOf}
 use Rattle.model.specs.Refusals.{Outcome, accepted}
-use Rattle.model.specs.Load.{Loaded, loadAnswer}
+use Rattle.model.specs.Load.{Loaded, loadAnswer, loadColumns}
 use Rattle.model.specs.Calls.{Reported, reportAnswer, reported}
 use Rattle.model.specs.Runs.{Lent, Call, start, accepts, run, AsLoaded, Fed, events, Exact, noRiver, ExactRun}
 
@@ -59,3 +59,9 @@ Demand3 =
     (sheet : List ℕ) (records : ℕ) (columns : Columns) (v : Loaded) → loadAnswer sheet records columns ≡ accepted v →
     (before : State) (lent : Lent) (u : ℕ) (calls : List Call) → T (accepts before (start lent u)) →
     Fed sheet before (start lent u ∷ calls) → Holds sheet before (start lent u ∷ calls)
+
+-- What an accepted loading leaves in the fourteen lists is what an accepted call is to be lent.
+abbrev pub LoadedLists : Type 0
+LoadedLists =
+    (sheet : List ℕ) (records : ℕ) (columns : Columns) (v : Loaded) → loadAnswer sheet records columns ≡ accepted v →
+    AsLoaded sheet (record { count = v .segments; columns = loadColumns sheet records columns })

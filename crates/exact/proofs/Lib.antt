@@ -1,0 +1,13 @@
+pub mod OldIsNew
+pub mod Sides
+pub mod Comparison
+pub mod CommonDenominator
+pub mod Elimination
+pub mod Exists
+pub mod Rivers
+pub mod Unique
+pub mod Range
+pub mod Defect
+pub mod Computed
+pub mod Step
+pub mod OneSet

@@ -1,0 +1,2 @@
+pub mod PairEquations
+pub mod Close

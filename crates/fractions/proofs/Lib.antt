@@ -1,0 +1,4 @@
+pub mod Whole
+pub mod Differences
+pub mod Over
+pub mod Bounds
