@@ -1,5 +1,5 @@
 -- Laws of `over`: what a pass that writes the first entries leaves, and a loop that writes them one by one.
-use mathlib.Core.Path.{_≡_, refl, sym, ap, _∙_}
+use mathlib.Core.Path.{_≡_, refl, sym, ap, ap₂, _∙_}
 use mathlib.Core.List.{List, [], _∷_, _++_}
 use Prim.Native.Nat.{ℕ, zero, suc, _+_, _-_, _<_, _≤_}
 use native.Mathlib.Numerals.{add-one}
@@ -42,11 +42,14 @@ over-turn f before i h =
     ∙ sym (append-snoc (tab 0 i f) (f i) (drop (suc i) before))
     ∙ ap (λ l. l ++ drop (suc i) before) (sym (tab-last f i)))
 
-pub filling-turn {ℓ} : {A : Type ℓ} {f : ℕ → A} {before : List A} {i : ℕ} {list : List A} → Filling f before i list → i < length before →
-    Filling f before (i + 1) (set list i (f i))
-filling-turn {f = f} {before = before} {i = i} {list = list} r h =
-    record { is = ap (λ l. set l i (f i)) (r .is) ∙ over-turn f before i h; long = length-set list i (f i) ∙ r .long }
+pub filling-turn {ℓ} : {A : Type ℓ} {f : ℕ → A} {before : List A} {i : ℕ} {list : List A} {v : A} → Filling f before i list → i < length before → v ≡ f i →
+    Filling f before (i + 1) (set list i v)
+filling-turn {f = f} {before = before} {i = i} {list = list} {v = v} r h e =
+    record {
+      is = ap₂ (λ l x. set l i x) (r .is) e ∙ over-turn f before i h;
+      long = length-set list i v ∙ r .long;
+    }
 
-pub filling-end {ℓ} : {A : Type ℓ} {f : ℕ → A} {before : List A} {i n : ℕ} {list : List A} → Filling f before i list → i ≡ n →
+pub filling-end {ℓ} : {A : Type ℓ} {f : ℕ → A} {before : List A} {i : ℕ} {list : List A} (n : ℕ) → Filling f before i list → i ≡ n →
     list ≡ over (tab 0 n f) before
-filling-end {f = f} {before = before} r e = r .is ∙ ap (λ k. over (tab 0 k f) before) e
+filling-end {f = f} {before = before} n r e = r .is ∙ ap (λ k. over (tab 0 k f) before) e

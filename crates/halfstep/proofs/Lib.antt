@@ -1,0 +1,8 @@
+pub mod Ranges
+pub mod Signed
+pub mod Sums
+pub mod Sites
+pub mod River
+pub mod Walking
+pub mod Segments
+pub mod Course

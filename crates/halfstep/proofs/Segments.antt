@@ -1,0 +1,116 @@
+-- One turn of a walk down the river: from the cursor at segment i and that segment's reach the calls give the next cursor, the reach
+-- below and the segment of the course.
+use mathlib.Core.Bool.{Bool, true, false, cond}
+use mathlib.Core.List.{List}
+use mathlib.Core.Path.{_≡_, refl, sym, ap, _∙_}
+use Prim.Native.Nat.{ℕ, suc, _+_, _<_}
+use native.Mathlib.Numerals.{add-one}
+use native.Mathlib.Omega.{arith}
+use borrow.Author.Tests.{eqb-false}
+use lib.Dec.{eqb}
+use lib.ListN.{length}
+use Rattle.model.specs.Sheet as Sheet
+use Rattle.model.specs.Flow.{Course, flow}
+use Rattle.model.specs.HalfStep.{ad, isLast, adBelow}
+use Rattle.terms.specs.Says.{reachSays}
+use Rattle.terms.specs.declared.Reach.{Reach}
+use Rattle.halfstep.specs.Walk.{adOf, reachNo, atTop, reachBelow, further, cursorAt, Walks}
+use Rattle.halfstep.specs.Site.{flowOf, siteOf, Fields}
+use Rattle.halfstep.specs.declared.walk.Cursor.{Cursor}
+use Rattle.halfstep.specs.declared.Site.{Site}
+use Rattle.halfstep.proofs.River.{river-length, before-ge}
+use Rattle.halfstep.proofs.Sites.{SiteAt, ad-le}
+use Rattle.halfstep.proofs.Walking.{Along, Known, known, stands-top}
+
+-- reach number k is on the sheet, and its AD is x
+pub record Has (rs : List Sheet.Reach) (k x : ℕ) : Type 0 where
+  pub known : k < length rs
+  pub value : adOf (reachNo rs k) ≡ x
+
+-- a site is segment i of the course, and its fields are in their ranges
+pub record Sited (course : Course) (i : ℕ) (site : Site) : Type 0 where
+  pub place : SiteAt course i site
+  pub fields : Fields site
+
+-- the cursor after i segments
+pub record Walked (rs : List Sheet.Reach) (course : Course) (i : ℕ) (at : Cursor) : Type 0 where
+  pub same : at ≡ cursorAt rs (course .dx) i
+
+-- at the top
+pub walked-top : {rs : List Sheet.Reach} {course : Course} {first : Reach} → reachSays first ≡ reachNo rs 0 → Walked rs course 0 (atTop (reachSays first))
+unfolding cursorAt
+walked-top is = record { same = ap atTop is }
+
+module _ {n : ℕ} {rs : List Sheet.Reach} {course : Course} (river : Along n rs course) where
+  -- the first reach is on the sheet
+  pub first-at : 0 < n → 0 < length rs
+  first-at h = stands-top {rs = rs} (river .ranges) (omega (arith, river .count)) .known
+
+  -- the last segment is the last of all reaches together
+  last-at : (i : ℕ) → eqb (i + 1) n ≡ isLast course i
+  unfolding isLast
+  last-at i = rw (river .river, river-length, river .count, add-one)
+
+  module _ {i : ℕ} (h : i < n) {at : Cursor} (w : Walked rs course i at) where
+    -- what the cursor has
+    pub known-at : Known rs course i at
+    known-at = rw (w .same) (known river i h)
+
+    module _ {own : Reach} (is : reachSays own ≡ reachNo rs (at .reach)) where
+      -- the walk can go on
+      pub walks-at : Walks (course .dx) (reachSays own) at
+      walks-at =
+          let k = known-at in
+          let reaches = before-ge rs (at .reach) (λ j q. river .ranges j q .segments) (omega (arith, k .stands .known)) in
+          rw is
+          (record {
+            ranges = river .ranges (at .reach) (k .stands .known);
+            length = river .steps .length;
+            passed = k .stands .within;
+            reach = omega (arith, k .stands, river .few);
+            gain = omega (arith, k .small, river .few);
+          })
+
+      -- one segment more
+      pub walked-next : Walked rs course (i + 1) (further (course .dx) (reachSays own) at)
+      unfolding cursorAt
+      walked-next = record { same = rw (is, w .same, add-one) }
+
+      -- the reach below, by whether the segment is the last
+      below : (t : Bool) → eqb (i + 1) n ≡ t
+          → Has rs (cond t (at .reach) (reachBelow (reachSays own) at)) (cond t (ad course i) (ad course (suc i)))
+      unfolding ad cursorAt further
+      below true e = record { known = known-at .stands .known; value = rw (known-at .own) }
+      below false e =
+          let k = known river (suc i) (omega (arith, eqb-false (i + 1) n e)) in
+          rw (is, w .same) (record { known = k .stands .known; value = rw (k .own) })
+
+      -- the reach of the segment below, of the last segment its own
+      pub below-at : Has rs (cond (eqb (i + 1) n) (at .reach) (reachBelow (reachSays own) at)) (adBelow course i)
+      unfolding adBelow
+      below-at = rw (← last-at i) (below (eqb (i + 1) n) refl)
+
+      -- the segment where the walk stands
+      pub sited : {next : Reach} → reachSays next ≡ reachNo rs (cond (eqb (i + 1) n) (at .reach) (reachBelow (reachSays own) at))
+          → Sited course i (siteOf (course .dt) (course .dx) (course .top) at own next (eqb (i + 1) n))
+      unfolding siteOf flowOf flow
+      sited r =
+          let k = known-at in
+          let b = below-at in
+          record {
+            place = record {
+              own = k .own ∙ sym is;
+              above = sym (k .above);
+              below = sym (ap adOf r ∙ b .value);
+              stream = rw (k .sum);
+              end = sym (last-at i);
+              time = refl;
+              step = refl;
+            };
+            fields = record {
+              ranges = rw is (river .ranges (at .reach) (k .stands .known));
+              steps = river .steps;
+              above = k .wide;
+              below = rw r (ad-le (river .ranges _ (b .known)));
+            };
+          }

@@ -1,0 +1,29 @@
+-- `Site::carried` meets its contract: with the flow in its range, Q × dx is at most 10^8 × 10^4. Assumes nothing.
+use native.Mathlib.Nat.{mul-le-mul}
+use native.Mathlib.Omega.{arith}
+use borrow.Author.Needs.{needs}
+use Rattle.halfstep.specs.Site.{flowFaultOf}
+use Rattle.halfstep.proofs.Signed.{back}
+use Rattle.halfstep.proofs.Sites.{flow-range}
+use Rattle.halfstep.proofs.Site.carried.Statement.{statement}
+use Rattle.halfstep.proofs.Site.carried.Tie as tie
+
+discharge-requires : tie.Need-discharge-requires
+unfolding flowFaultOf
+discharge-requires c κs =
+    let flow = c .before .args .self .flow in
+    rw (back flow (c .struct-told .given .1 .1 .1 .0 .1)) (flow-range flow (c .before .pre .1) .low)
+
+returns : tie.Need-returns
+unfolding flowFaultOf
+returns c =
+    let start = c .before .before .before in
+    let flow = start .args .self .flow in
+    let q = rw (back flow (c .before .before .struct-told .given .1 .1 .1 .0 .1)) at (c .before .discharge .ensures) in
+    (rw q, rw q (mul-le-mul (flow-range flow (start .pre .1) .high) (start .pre .0)))
+
+mul-result : tie.Need-mul-result
+mul-result c = omega (arith, returns c .1)
+
+pub carried-spec : {M : Type 1} → statement M
+carried-spec = tie.close (tie.spec discharge-requires (λ c. search needs) mul-result returns)

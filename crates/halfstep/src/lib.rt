@@ -1,0 +1,252 @@
+// The flow of a segment and its half-step numbers: document 01, "Flow and half-step numbers", with tests 10 to 12, on values.
+ghost use mathlib.Core.Bool.{false};
+ghost use mathlib.Core.Path.{_≡_};
+ghost use Prim.Native.Nat.{_+_, _*_, _^_, _<_, _≤_};
+ghost use lib.IntN.{pos, natAbs};
+ghost use lib.Signed.{ltZ};
+ghost use Rattle.rounding.specs.Nearest.{S, parts};
+ghost use Rattle.model.specs.Ranges.{flows};
+ghost use Rattle.model.specs.Flow.{natural};
+ghost use Rattle.model.specs.HalfStep.{rateOf};
+ghost use Rattle.model.specs.Load.{sumFault};
+ghost use Rattle.halfstep.specs.Walk.{mostGain};
+ghost use Rattle.halfstep.specs.Site.{flowOf, siteOf, flowFaultOf, faceFaultOf, numbersOf, cut, numbersSay, Fields, Passes, StandFor};
+use rounding::signed;
+use terms::Reach;
+use walk::Cursor;
+
+pub mod walk;
+
+// What the half-step numbers of a segment are worked out from: its reach, the AD above and below, its flow, whether it is the last
+// of the river, and the sheet's dt and dx.
+pub struct Site {
+    pub own: Reach,
+    pub above: u64,
+    pub below: u64,
+    pub flow: i64,
+    pub last: bool,
+    pub dt: u32,
+    pub dx: u32,
+}
+
+// The ten half-step numbers of a segment, in parts of one whole.
+pub struct Numbers {
+    pub e: u32,
+    pub g: u32,
+    pub l: u32,
+    pub a: u32,
+    pub b: u32,
+    pub k: u32,
+    pub ks: u32,
+    pub h: u32,
+    pub m: u32,
+    pub s: u32,
+}
+
+// The highest flow, in mL/s.
+const HIGHEST_FLOW: i64 = 100000000;
+
+// The flow at the top and the net gain, which is rounded down once. There are 100,000 cm to the km.
+fn flow(top: u32, gain: i64) -> i64
+    requires { ⌜ natAbs gain ≤ mostGain ⌝ }
+    ensures { λ r. ⌜ r ≡ flowOf top gain ⌝ }
+{
+    signed::plus(signed::int(top), signed::floor_div(gain, 100000))
+}
+
+// Above the highest flow.
+fn above_highest(flow: i64) -> bool
+    ensures { λ r. ⌜ r ≡ ltZ (pos (flows .high)) flow ⌝ }
+{
+    HIGHEST_FLOW < flow
+}
+
+// Q as the formulas read it, of a flow that is not below 0.
+fn discharge(flow: i64) -> u64
+    requires { ⌜ ltZ flow (pos 0) ≡ false ⌝ }
+    ensures { λ r. ⌜ r ≡ natural flow ⌝ }
+{
+    flow as u64
+}
+
+// dt × rate / (2 × 10⁹).
+fn rate(dt: u32, rate: u32) -> u32
+    ensures { λ r. ⌜ r ≡ cut (rateOf dt rate) ⌝ }
+{
+    rounding::parts(walk::product(dt, rate), 2000000000)
+}
+
+// 4 × A × dx².
+fn face_divisor(area: u32, dx: u32) -> u64
+    requires { ⌜ (1 ≤ area) × (area ≤ 10 ^ 6) × (1 ≤ dx) × (dx ≤ 10 ^ 4) ⌝ }
+    ensures { λ r. ⌜ (r ≡ 4 * area * (dx * dx)) × (0 < r) ⌝ }
+{
+    4 * (area as u64) * walk::product(dx, dx)
+}
+
+// dt × x / d, where x is what crosses a face of the segment.
+fn crossing(dt: u32, x: u64, d: u64) -> u32
+    requires { ⌜ (dt ≤ 3600) × (x ≤ 3 * 10 ^ 12) × (0 < d) ⌝ }
+    ensures { λ r. ⌜ r ≡ cut (parts (dt * x) d) ⌝ }
+{
+    rounding::parts((dt as u64) * x, d)
+}
+
+// dt × qin / (2 × 10⁵ × A).
+fn inflow(dt: u32, qin: u32, area: u32) -> u32
+    requires { ⌜ 1 ≤ area ⌝ }
+    ensures { λ r. ⌜ r ≡ cut (parts (dt * qin) (2 * 10 ^ 5 * area)) ⌝ }
+{
+    rounding::parts(walk::product(dt, qin), 200000 * (area as u64))
+}
+
+// dt × ALPHA × A / (2 × 10⁹ × AS).
+fn exchange(dt: u32, alpha: u32, area: u32, area2: u32) -> u32
+    requires { ⌜ (dt ≤ 3600) × (alpha ≤ 10 ^ 9) × (area ≤ 10 ^ 6) × (1 ≤ area2) ⌝ }
+    ensures { λ r. ⌜ r ≡ cut (parts (dt * alpha * area) (2 * 10 ^ 9 * area2)) ⌝ }
+{
+    rounding::parts(
+        walk::product(dt, alpha) * (area as u64),
+        2000000000 * (area2 as u64),
+    )
+}
+
+// dt × LAMHAT × RHO × Kd / (2 × 10¹⁵), worked out where h is at most one whole: elsewhere the product may be wider than 64 bits, and
+// the segment is refused 12 whatever s is.
+fn sorption(dt: u32, lamhat: u32, rho: u32, kd: u32, h: u32) -> u32
+    requires { ⌜ (rho ≤ 1000000) × (kd ≤ 1000) × (h ≡ cut (rateOf dt lamhat)) ⌝ }
+    ensures { λ r. ⌜ (rateOf dt lamhat ≤ S → r ≡ cut (parts (dt * lamhat * rho * kd) (2 * 10 ^ 15))) ⌝ }
+{
+    if rounding::WHOLE < h as u64 {
+        return 0;
+    }
+    rounding::parts(
+        walk::product(dt, lamhat) * (rho as u64) * (kd as u64),
+        2000000000000000,
+    )
+}
+
+impl Site {
+    // The segment where a walk stands; `below` is the reach of the segment below, of the last segment its own.
+    pub fn new(at: Cursor, own: Reach, below: Reach, last: bool, top: u32, dt: u32, dx: u32) -> Site
+        requires { ⌜ natAbs (at .gain) ≤ mostGain ⌝ }
+        ensures { λ r. ⌜ r ≡ siteOf dt dx top at own below last ⌝ }
+    {
+        Site {
+            own: own,
+            above: at.above,
+            below: walk::ad(below),
+            flow: flow(top, at.gain),
+            last: last,
+            dt: dt,
+            dx: dx,
+        }
+    }
+
+    // 10. "A flow is below 0 or above 100,000,000".
+    pub fn flow_fault(self) -> bool
+        ensures { λ r. ⌜ r ≡ flowFaultOf self ⌝ }
+    {
+        if signed::below_zero(self.flow) {
+            return true;
+        }
+        above_highest(self.flow)
+    }
+
+    // Q × dx.
+    fn carried(self) -> u64
+        requires { ⌜ (self .dx ≤ 10 ^ 4) × (flowFaultOf self ≡ false) ⌝ }
+        ensures { λ r. ⌜ (r ≡ natural (self .flow) * self .dx) × (r ≤ 10 ^ 12) ⌝ }
+    {
+        discharge(self.flow) * (self.dx as u64)
+    }
+
+    // 11. "Q × dx exceeds AD own + AD below".
+    pub fn face_fault(self) -> bool
+        requires { ⌜ Fields self × (flowFaultOf self ≡ false) ⌝ }
+        ensures { λ r. ⌜ r ≡ faceFaultOf self ⌝ }
+    {
+        let own = self.own;
+        walk::ad(own) + self.below < self.carried()
+    }
+
+    // dt × (Q × dx + AD above + AD own) / (4 × A × dx²).
+    fn e(self) -> u32
+        requires { ⌜ Passes self ⌝ }
+        ensures { λ r. ⌜ r ≡ cut (numbersOf self .e) ⌝ }
+    {
+        let own = self.own;
+        crossing(
+            self.dt,
+            self.carried() + self.above + walk::ad(own),
+            face_divisor(own.area, self.dx),
+        )
+    }
+
+    // dt × (AD own + AD below − Q × dx) / (4 × A × dx²); 0 in the last segment.
+    fn g(self) -> u32
+        requires { ⌜ Passes self ⌝ }
+        ensures { λ r. ⌜ r ≡ cut (numbersOf self .g) ⌝ }
+    {
+        if self.last {
+            return 0;
+        }
+        let own = self.own;
+        crossing(
+            self.dt,
+            walk::ad(own) + self.below - self.carried(),
+            face_divisor(own.area, self.dx),
+        )
+    }
+
+    // The ten half-step numbers; one part above one whole stands for all that is more.
+    pub fn numbers(self) -> Numbers
+        requires { ⌜ Passes self ⌝ }
+        ensures { λ r. ⌜ StandFor (numbersSay r) (numbersOf self) ⌝ }
+    {
+        let own = self.own;
+        let dt = self.dt;
+        let h = rate(dt, own.lamhat);
+        Numbers {
+            e: self.e(),
+            g: self.g(),
+            l: inflow(dt, own.qin, own.area),
+            a: rate(dt, own.alpha),
+            b: exchange(dt, own.alpha, own.area, own.area2),
+            k: rate(dt, own.lambda),
+            ks: rate(dt, own.lambda2),
+            h: h,
+            m: rate(dt, own.lamhat2),
+            s: sorption(dt, own.lamhat, own.rho, own.kd, h),
+        }
+    }
+}
+
+// T of any six numbers.
+fn sum_t(e: u32, g: u32, l: u32, a: u32, k: u32, s: u32) -> u64
+    ensures { λ r. ⌜ r ≡ e + g + l + a + k + s ⌝ }
+{
+    (e as u64) + (g as u64) + (l as u64) + (a as u64) + (k as u64) + (s as u64)
+}
+
+// V of any three.
+fn sum_v(b: u32, ks: u32, m: u32) -> u64
+    ensures { λ r. ⌜ r ≡ b + ks + m ⌝ }
+{
+    (b as u64) + (ks as u64) + (m as u64)
+}
+
+impl Numbers {
+    // 12. "T, V or h exceeds one whole", of any ten numbers.
+    pub fn sum_fault(self) -> bool
+        ensures { λ r. ⌜ r ≡ sumFault (numbersSay self) ⌝ }
+    {
+        if rounding::WHOLE < sum_t(self.e, self.g, self.l, self.a, self.k, self.s) {
+            return true;
+        }
+        if rounding::WHOLE < sum_v(self.b, self.ks, self.m) {
+            return true;
+        }
+        rounding::WHOLE < self.h as u64
+    }
+}
