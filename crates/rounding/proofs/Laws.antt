@@ -1,14 +1,19 @@
 -- What the other crates know of `nearest` and `floorDiv`. Only this file and the proof of `rounded` unfold `nearest`.
-use mathlib.Core.Path.{_≡_}
-use Prim.Native.Nat.{ℕ, zero, suc, _+_, _-_, _*_, _/_, _<_, _≤_}
+use mathlib.Core.Path.{_≡_, refl}
+use Prim.Native.Nat.{ℕ, zero, suc, _+_, _-_, _*_, _/_, _^_, _<_, _≤_}
 use native.Mathlib.Nat.{mul-le-mul-left, lt-of-mul-lt-mul-left, mul-div-le, lt-mul-div-succ, le-div-iff-mul-le, div-eq-of-lt-le}
 use native.Mathlib.Omega.{arith}
 use borrow.Author.Tests.{lt-ltb}
 use lib.Dec.{le→leb, lt→ltb}
 use lib.IntN.{ℤ, pos, negsuc, negℤ, _+ℤ_, _*ℤ_}
 use lib.Signed.{_≤ℤ_, _<ℤ_, leZ-yes, ltZ-yes}
-use Rattle.rounding.specs.Nearest.{nearest}
+use Rattle.rounding.specs.Nearest.{nearest, parts}
 use Rattle.rounding.specs.Floor.{floorDiv}
+
+-- T2: the fraction 1/2^31 is half a part, and goes up
+pub half-a-part : parts 1 (2 ^ 31) ≡ 1
+unfolding nearest
+half-a-part = refl
 
 -- a half goes up
 pub half-up : (q : ℕ) → nearest (2 * q + 1) 2 ≡ suc q

@@ -1,0 +1,813 @@
+"""River sheets for the tests: a writer, and generators of good, extreme and damaged sheets.
+
+A generator that draws at random takes its own random.Random, so that a seed fixes
+every sheet.  A case says by itself what it must give where its making decides that;
+elsewhere the model says it.
+"""
+from __future__ import annotations
+
+import random
+from collections.abc import Callable, Iterator
+from dataclasses import dataclass, field, replace
+from typing import NamedTuple, Optional
+
+import model
+from model import (CONCENTRATION, FIELD, FLOW, HIGHEST, HIGHEST_FLOW, HIGHEST_KD, HIGHEST_RATE, KD_UNIT,
+                   LATERAL, MARK, MOST_GAUGES, MOST_REACHES, MOST_ROWS, MOST_SEGMENTS, MOST_STEPS,
+                   ONE_WHOLE, RATE_UNIT, REACH_RANGES, Header, Range, Reach, Row)
+
+HIGHEST_FIELD = 2 ** 32 - 1
+LONGEST = len(MARK) + FIELD * (len(Header._fields) + 1 + MOST_REACHES * len(Reach._fields)
+                               + 1 + MOST_ROWS * len(Row._fields) + 1 + MOST_GAUGES)
+BUFFER = 65_536                     # a length at which a program may stop reading
+ACCEPTED = 0                        # in place of a refusal's number
+
+
+class Case(NamedTuple):
+    """A sheet to try, and what is known of its answer."""
+
+    name: str
+    sheet: bytes
+    number: Optional[int] = None    # ACCEPTED or the refusal, where the making decides it
+    exact: str = ""                 # "fractions" or "brackets": solve the exact river too
+    pauses: tuple[int, ...] = ()    # offsets where the delivery of the sheet pauses
+
+
+@dataclass
+class Draft:
+    """The fields of a sheet, before they are written."""
+
+    header: Header
+    reaches: list[Reach]
+    rows: list[Row] = field(default_factory=lambda: [Row(0, 0)])
+    gauges: list[int] = field(default_factory=lambda: [1])
+
+    def with_header(self, **changes: int) -> Draft:
+        return replace(self, header=self.header._replace(**changes))
+
+    def with_reach(self, at: int, **changes: int) -> Draft:
+        reaches = list(self.reaches)
+        reaches[at] = reaches[at]._replace(**changes)
+        return replace(self, reaches=reaches)
+
+    @property
+    def segments(self) -> int:
+        return model.segment_count(self.reaches)
+
+
+class Field(NamedTuple):
+    """One field of a sheet: its name, figure and range, and the refusal when it is outside."""
+
+    name: str
+    figure: int
+    allowed: Range
+    number: int
+
+
+def fields(draft: Draft) -> list[Field]:
+    """All fields in the sheet's order, after the mark."""
+    M = draft.header.M
+    ranges = model.header_ranges(M)
+    found = [Field(name, figure, ranges[name], 5) for name, figure in draft.header._asdict().items()]
+    found.append(Field("count of reaches", len(draft.reaches), Range(1, MOST_REACHES), 3))
+    for at, reach in enumerate(draft.reaches, 1):
+        found += [Field(f"reach {at} {name}", figure, REACH_RANGES[name], 6)
+                  for name, figure in reach._asdict().items()]
+    found.append(Field("count of rows", len(draft.rows), Range(1, MOST_ROWS), 3))
+    for at, row in enumerate(draft.rows, 1):
+        found.append(Field(f"row {at} start", row.start, Range(0, M), 8))
+        found.append(Field(f"row {at} concentration", row.concentration, CONCENTRATION, 8))
+    found.append(Field("count of gauges", len(draft.gauges), Range(1, MOST_GAUGES), 3))
+    for at, gauge in enumerate(draft.gauges, 1):
+        found.append(Field(f"gauge {at}", gauge, Range(1, draft.segments), 9))
+    return found
+
+
+def word(figure: int) -> bytes:
+    return figure.to_bytes(FIELD, "little")
+
+
+def write(draft: Draft) -> bytes:
+    """The sheet of a draft; figures may be outside their ranges."""
+    return MARK + b"".join(word(each.figure) for each in fields(draft))
+
+
+def offset(draft: Draft, name: str) -> int:
+    """Where a named field begins on the sheet."""
+    return len(MARK) + FIELD * [each.name for each in fields(draft)].index(name)
+
+
+def put(sheet: bytes, at: int, figure: int) -> bytes:
+    return sheet[:at] + word(figure) + sheet[at + FIELD:]
+
+
+def accepted(draft: Draft) -> bool:
+    return model.answer(write(draft)) is None
+
+
+# The document's brook and its bench cases
+
+BROOK_REACH = Reach(segments=1, D=50, A=100, AS=100, ALPHA=0, qin=0, qout=0, CL=0, LAMBDA=0, LAMBDA2=0,
+                    LAMHAT=0, LAMHAT2=0, RHO=0, Kd=0, CB=0, start=0)
+
+
+def brook(dt: int, Q: int, U: int = 0, M: int = 1, **reach: int) -> Draft:
+    """Brook: one segment unless named, dx 10, interval 1, one boundary row, gauge 1."""
+    return Draft(Header(dt=dt, dx=10, M=M, interval=1, top_flow=Q),
+                 [BROOK_REACH._replace(**reach)], [Row(0, U)])
+
+
+LISTING = b"""step segment channel storage sediment
+1 1 2000 400 1334
+2 1 2667 533 3556
+done 2
+"""
+
+
+def listing_draft() -> Draft:
+    """The river of the document's listing."""
+    return brook(dt=2, Q=0, U=3_000, M=2, LAMHAT=500_000_000, LAMHAT2=500_000_000, Kd=2, CB=600)
+
+
+def two_segment_brook() -> Draft:
+    """T10: dt 1, Q 0, two segments, start 0, U 3,000 throughout; a gauge in each."""
+    return replace(brook(dt=1, Q=0, U=3_000, segments=2), gauges=[1, 2])
+
+
+def slope(top_flow: int, segments: int) -> Draft:
+    """qin 0, qout 4,545, dx 1,000: the net gain is not whole."""
+    reach = BROOK_REACH._replace(segments=segments, A=1_000, D=1_000, qout=4_545, start=500)
+    return Draft(Header(dt=10, dx=1_000, M=2, interval=1, top_flow=top_flow), [reach],
+                 [Row(0, 3_000)], [segments])
+
+
+def still_reaches(*segments: int) -> Draft:
+    return Draft(Header(dt=1, dx=10, M=1, interval=1, top_flow=0),
+                 [BROOK_REACH._replace(segments=count, start=1_000) for count in segments],
+                 [Row(0, 3_000)], [1])
+
+
+def bench_cases() -> Iterator[Case]:
+    """The document's listing and those bench figures that a sheet can show."""
+    def case(name: str, draft: Draft, number: int) -> Case:
+        return Case(name, write(draft), number, "fractions" if draft.segments < 9 else "brackets")
+
+    yield case("the listing", listing_draft(), ACCEPTED)
+    yield case("T6", brook(dt=2, Q=1_000, U=3_001), ACCEPTED)
+    yield case("T7", brook(dt=3, Q=1_000), 12)
+    yield case("T8", brook(dt=2, Q=1_001), 11)
+    yield case("T9", brook(dt=3, Q=1_001), 11)
+    yield case("T10", two_segment_brook(), ACCEPTED)
+    yield case("slope, two segments, 46", slope(46, 2), ACCEPTED)
+    yield case("slope, two segments, 45", slope(45, 2), 10)
+    yield case("slope, three segments, 91", slope(91, 3), ACCEPTED)
+    yield case("slope, three segments, 90", slope(90, 3), 10)
+    yield case("1,024 segments in one reach", still_reaches(1_024), ACCEPTED)
+    yield case("1,024 segments in two reaches", still_reaches(1_000, 24), ACCEPTED)
+    yield case("1,025 segments in two reaches", still_reaches(1_024, 1), 7)
+    yield case("1,025 segments in one reach", still_reaches(1_025), 6)
+
+
+# Rivers drawn at random, with parameters that pass tests 10 to 12
+
+
+def log_uniform(rng: random.Random, low: int, high: int) -> int:
+    """From low to high, each order of size as likely as the next."""
+    if high <= low:
+        return low
+    return min(high, int(low * (high / low) ** rng.random() + rng.random()))
+
+
+def concentration(rng: random.Random) -> int:
+    return rng.choice((0, HIGHEST, HIGHEST - rng.randint(0, 9), rng.randint(0, 9),
+                       log_uniform(rng, 1, HIGHEST), rng.randint(0, HIGHEST), rng.randint(0, HIGHEST)))
+
+
+def split(rng: random.Random, total: int, count: int) -> list[int]:
+    """That many whole numbers of at least 1 with this sum."""
+    cuts = [0, *sorted(rng.sample(range(1, total), count - 1)), total]
+    return [high - low for low, high in zip(cuts, cuts[1:])]
+
+
+def shared(rng: random.Random, total: float, count: int) -> list[float]:
+    """Random parts of a total, some of them 0."""
+    weights = [rng.choice((0.0, 0.01, 1.0)) * rng.random() for _ in range(count)]
+    whole = sum(weights)
+    return [total * weight / whole if whole else 0.0 for weight in weights]
+
+
+def within(allowed: Range, figure: float) -> int:
+    return max(allowed.low, min(allowed.high, int(figure)))
+
+
+def rate(share: float, dt: int) -> int:
+    """The rate whose half-step number is that share of one whole, at most."""
+    return within(model.RATE, share * 2 * RATE_UNIT / dt)
+
+
+def random_rows(rng: random.Random, M: int, most: int) -> list[Row]:
+    count = rng.randint(1, min(most, M + 1))
+    starts = [0, *sorted(rng.sample(range(1, M + 1), count - 1))]
+    if count > 1 and rng.random() < 0.2:
+        starts[-1] = M
+    return [Row(begin, concentration(rng)) for begin in starts]
+
+
+def random_gauges(rng: random.Random, segments: int, most: int) -> list[int]:
+    gauges = set(rng.sample(range(1, segments + 1), rng.randint(1, min(most, segments))))
+    if len(gauges) < MOST_GAUGES and rng.random() < 0.5:
+        gauges.add(rng.choice((1, segments)))
+    return sorted(gauges)
+
+
+def with_lateral_flow(rng: random.Random, draft: Draft, share: float) -> Draft:
+    """Top flow, qin and qout that keep every flow between 0 and what test 11 allows."""
+    dt, dx = draft.header.dt, draft.header.dx
+    own = model.reach_of_segments(draft.reaches)
+    limit = min(HIGHEST_FLOW, *((here + below) // dx for _, here, below in model.dispersion_around(own)))
+    flow = rng.choice((0, limit, limit // 2, rng.randint(0, limit), rng.randint(0, limit)))
+    draft = draft.with_header(top_flow=flow)
+    for at, reach in enumerate(draft.reaches):
+        if rng.random() < 0.4:
+            continue
+        most_in = within(FLOW, share * 2 * LATERAL * reach.A / dt)
+        length = dx * reach.segments
+        target = rng.choice((0, limit, rng.randint(0, limit)))
+        gain = (target - flow) * LATERAL // length
+        gain = max(-HIGHEST_FLOW, min(gain, most_in))
+        both = rng.randint(0, most_in - max(gain, 0)) if rng.random() < 0.6 else 0
+        both = min(both, HIGHEST_FLOW - max(-gain, 0))
+        draft = draft.with_reach(at, qin=max(gain, 0) + both, qout=max(-gain, 0) + both)
+        flow += gain * length // LATERAL
+    return draft
+
+
+def draw_river(rng: random.Random, segments: int, steps: int, dt: Optional[int] = None,
+               figures: Callable[[random.Random], int] = concentration) -> Draft:
+    """A river with its half-step sums below one whole, as far as rounding lets one say."""
+    dx = log_uniform(rng, 10, 10_000)
+    dt = dt or log_uniform(rng, 1, min(3_600, dx * dx // 4))
+    most_reaches = rng.choice((1, 2, 4, 16, MOST_REACHES))
+    lengths = split(rng, segments, rng.randint(1, min(segments, most_reaches)))
+    full = rng.choice((0.2, 0.7, 0.95, 0.999))
+    spread, unevenness = rng.choice((0.0, 0.0, 0.3, 0.8)), rng.choice((0.1, 0.3, 0.3, 0.9, 1.0))
+    area = log_uniform(rng, 1, 1_000_000)
+    areas = [within(model.AREA, area * (1 - spread * rng.random())) for _ in lengths]
+    dispersion = rng.choice((0.0, 0.3, 0.6, 0.9, 1.0)) * full
+    lateral, *_ = shared(rng, full - dispersion, 4)
+    most_AD = dispersion * min(areas) * dx * dx / dt
+    reaches = []
+    for count, A in zip(lengths, areas):
+        exchange, decay, sorption = shared(rng, full - dispersion - lateral, 3)
+        into_storage, storage_decay, storage_sorption = shared(rng, full, 3)
+        if into_storage == 0.0:
+            exchange = 0.0
+        hold = rng.choice((0.0, 0.01, 0.5, 1.0)) * full
+        AS = within(model.AREA, 1 + exchange * A / into_storage if into_storage else area)
+        exchange = min(exchange, into_storage * AS / A)
+        Kd = rng.choice((0, 1, HIGHEST_KD, log_uniform(rng, 1, HIGHEST_KD)))
+        RHO = within(REACH_RANGES["RHO"], sorption * KD_UNIT / (hold * Kd) if hold and Kd else 0)
+        D = within(REACH_RANGES["D"], most_AD * (1 - unevenness * rng.random()) / A)
+        reaches.append(Reach(
+            segments=count, D=D, A=A, AS=AS, ALPHA=rate(exchange, dt), qin=0, qout=0, CL=figures(rng),
+            LAMBDA=rate(decay, dt), LAMBDA2=rate(storage_decay, dt), LAMHAT=rate(hold, dt),
+            LAMHAT2=rate(storage_sorption, dt), RHO=RHO, Kd=Kd, CB=figures(rng), start=figures(rng)))
+    interval = rng.choice((1, 1, steps, rng.randint(1, steps)))
+    draft = Draft(Header(dt=dt, dx=dx, M=steps, interval=interval, top_flow=0), reaches,
+                  [row._replace(concentration=figures(rng))
+                   for row in random_rows(rng, steps, rng.choice((1, 3, 20, MOST_ROWS)))],
+                  random_gauges(rng, segments, rng.choice((1, 4, MOST_GAUGES))))
+    return with_lateral_flow(rng, draft, lateral)
+
+
+def good_river(rng: random.Random, segments: int, steps: int, **choices) -> Draft:
+    """The first accepted one; the draw is right nearly always, so the search is short."""
+    for _ in range(1_000):
+        draft = draw_river(rng, segments, steps, **choices)
+        if accepted(draft):
+            return draft
+    raise RuntimeError("no accepted river in 1,000 draws")
+
+
+def describe(draft: Draft) -> str:
+    return (f"{draft.segments} segments in {len(draft.reaches)} reaches, {draft.header.M} steps, "
+            f"dt {draft.header.dt}, dx {draft.header.dx}")
+
+
+def small_rivers(rng: random.Random, count: int) -> Iterator[Case]:
+    """Few segments and steps: the exact river in fractions."""
+    for _ in range(count):
+        draft = good_river(rng, rng.randint(1, 4), rng.randint(1, 6))
+        yield Case(describe(draft), write(draft), ACCEPTED, "fractions")
+
+
+def rivers(rng: random.Random, count: int, most: int = 2_000) -> Iterator[Case]:
+    """All shapes, up to so many segments times steps; brackets around the exact river."""
+    for _ in range(count):
+        segments = log_uniform(rng, 1, 200)
+        steps = log_uniform(rng, 1, max(1, most // segments))
+        draft = good_river(rng, segments, steps)
+        yield Case(describe(draft), write(draft), ACCEPTED, "brackets")
+
+
+def unsifted_rivers(rng: random.Random, count: int) -> Iterator[Case]:
+    """As drawn, with one to three reach fields drawn anew from their whole range: the model decides."""
+    for _ in range(count):
+        draft = draw_river(rng, rng.randint(1, 12), rng.randint(1, 12))
+        for _ in range(rng.randint(1, 3)):
+            name = rng.choice([each for each in Reach._fields if each != "segments"])
+            allowed = REACH_RANGES[name]
+            inside = log_uniform(rng, max(1, allowed.low), allowed.high)
+            figure = rng.choice((allowed.low, allowed.high, inside))
+            draft = draft.with_reach(rng.randrange(len(draft.reaches)), **{name: figure})
+        yield Case(f"{describe(draft)}, {name} {figure}", write(draft))
+
+
+def large_rivers(rng: random.Random, count: int, steps: int = 8) -> Iterator[Case]:
+    """Near the limits of segments, reaches, rows and gauges."""
+    for _ in range(count):
+        draft = good_river(rng, rng.choice((MOST_SEGMENTS, rng.randint(500, MOST_SEGMENTS))), steps)
+        yield Case(describe(draft), write(draft), ACCEPTED, "brackets")
+
+
+def long_rivers(rng: random.Random, count: int, work: int = 6_000) -> Iterator[Case]:
+    """Few segments, many steps."""
+    for _ in range(count):
+        segments = rng.randint(1, 5)
+        draft = good_river(rng, segments, work // segments)
+        draft = draft.with_header(interval=rng.randint(1, 50))
+        yield Case(describe(draft), write(draft), ACCEPTED, "brackets")
+
+
+# Extreme rivers
+
+
+def plain() -> Draft:
+    """A mild river of three reaches, three segments each, with every field in use."""
+    reach = Reach(segments=3, D=5_000, A=10_000, AS=2_000, ALPHA=1_000_000, qin=3_000, qout=1_000, CL=500,
+                  LAMBDA=100_000, LAMBDA2=200_000, LAMHAT=5_000_000, LAMHAT2=3_000_000, RHO=100_000, Kd=5,
+                  CB=70, start=1_000)
+    return Draft(Header(dt=10, dx=1_000, M=6, interval=2, top_flow=20_000),
+                 [reach, reach._replace(A=12_000, start=3_000), reach._replace(CL=90_000, Kd=9)],
+                 [Row(0, 7_000), Row(2, 900_000), Row(5, 0)], [1, 5, 9])
+
+
+def rate_for(parts: int, dt: int) -> Optional[int]:
+    """A rate whose half-step number is exactly this, if there is one."""
+    guess = parts * 2 * RATE_UNIT // (dt * ONE_WHOLE)
+    for figure in (guess, guess + 1):
+        if model.RATE.holds(figure) and model.rate_number(dt, figure) == parts:
+            return figure
+    return None
+
+
+def tightened(draft: Draft) -> Optional[Draft]:
+    """LAMBDA and LAMBDA2 of each reach raised until its highest T and V are exactly one whole."""
+    river = model.river_of(model.read_sheet(write(draft)))
+    first = 0
+    for at, reach in enumerate(draft.reaches):
+        own = river[first:first + reach.segments]
+        first += reach.segments
+        LAMBDA = rate_for(own[0].k + ONE_WHOLE - max(part.T for part in own), draft.header.dt)
+        LAMBDA2 = rate_for(own[0].ks + ONE_WHOLE - max(part.V for part in own), draft.header.dt)
+        if LAMBDA is None or LAMBDA2 is None:
+            return None
+        draft = draft.with_reach(at, LAMBDA=LAMBDA, LAMBDA2=LAMBDA2)
+    return draft
+
+
+def next_rate(figure: int, dt: int) -> int:
+    """The lowest rate with a higher half-step number."""
+    here = model.rate_number(dt, figure)
+    while model.rate_number(dt, figure) == here:
+        figure += 1
+    return figure
+
+
+def tight_rivers(rng: random.Random, count: int) -> Iterator[Case]:
+    """Half-step sums at exactly one whole, and one part above it."""
+    made = 0
+    while made < count:
+        draft = tightened(good_river(rng, rng.randint(1, 6), rng.randint(1, 12), dt=rng.choice((1, 1, 2))))
+        if draft is None:
+            continue
+        made += 1
+        yield Case(f"tight: {describe(draft)}", write(draft), ACCEPTED, "brackets")
+        at = rng.randrange(len(draft.reaches))
+        name = rng.choice(("LAMBDA", "LAMBDA2"))
+        figure = next_rate(getattr(draft.reaches[at], name), draft.header.dt)
+        if model.RATE.holds(figure):
+            yield Case(f"one part above: {describe(draft)}, {name} {figure}",
+                       write(draft.with_reach(at, **{name: figure})), 12)
+
+
+def highest_figures(rng: random.Random) -> int:
+    return rng.choice((HIGHEST, HIGHEST, HIGHEST, HIGHEST - rng.randint(0, 3)))
+
+
+def highest_rivers(rng: random.Random, count: int) -> Iterator[Case]:
+    """Figures at 1,000,000,000 and no decay, so that rounding can carry one above it.
+
+    In half of them h is one whole: W' is then the mean of C and C', which shows a C' above.
+    """
+    for _ in range(count):
+        whole_h = rng.random() < 0.5
+        draft = good_river(rng, rng.randint(1, 10), rng.randint(1, 20), dt=2 if whole_h else None,
+                           figures=highest_figures)
+        for at in range(len(draft.reaches)):
+            draft = draft.with_reach(at, LAMBDA=0, LAMBDA2=0)
+            if whole_h:
+                draft = draft.with_reach(at, LAMHAT=HIGHEST_RATE, RHO=0, Kd=1)
+        yield Case(f"highest figures: {describe(draft)}", write(draft), ACCEPTED, "brackets")
+
+
+def whole_by_rounding() -> Iterator[Case]:
+    """e of one segment just below and just above one whole, each rounded to it: accepted."""
+    dt, dx, D = 100, 9_973, 1_000_000
+    wanted = {"below": range(-92_000, 0), "above": range(1, 92_000)}
+    for A in range(499_979, 400_000, -1):
+        space = 4 * A * dx ** 2
+        Q = model.nearest(space // dt - 2 * A * D, dx)
+        over = dt * (Q * dx + 2 * A * D) - space
+        for side, offsets in list(wanted.items()):
+            if over in offsets and Q * dx <= 2 * A * D and FLOW.holds(Q):
+                del wanted[side]
+                draft = Draft(Header(dt, dx, 3, 1, Q), [BROOK_REACH._replace(A=A, D=D)],
+                              [Row(0, HIGHEST), Row(2, 1)])
+                yield Case(f"e rounds to one whole from {side}", write(draft), ACCEPTED, "fractions")
+        if not wanted:
+            return
+    raise RuntimeError("no e that rounds to one whole")
+
+
+def one_reach(dt: int, dx: int, Q: int, rows: list[Row], **reach: int) -> Draft:
+    """The brook's reach with changes, a step past the last row's start, a line each step, all gauges."""
+    draft = Draft(Header(dt, dx, rows[-1].start + 1, 1, Q), [BROOK_REACH._replace(**reach)], rows)
+    return replace(draft, gauges=list(range(1, draft.segments + 1)))
+
+
+def extreme_rivers() -> Iterator[Case]:
+    """Named rivers at the ends of ranges and tests, each with what it must give."""
+    def case(name: str, draft: Draft, number: int = ACCEPTED) -> Case:
+        return Case(name, write(draft), number, "brackets")
+
+    U = [Row(0, 1), Row(1, 2), Row(2, 5), Row(3, HIGHEST), Row(4, HIGHEST - 1), Row(6, 8)]
+
+    # halves go up
+    yield case("C' is the mean of U and U'", one_reach(2, 10, 1_000, U, start=7))
+    yield case("Z' is the mean of C and C'",
+               one_reach(1, 10, 0, U, A=1_000_000, AS=1, ALPHA=2_000, start=7))
+    yield case("W' is the mean of C and C'",
+               one_reach(2, 10, 0, U, D=20, LAMHAT=HIGHEST_RATE, Kd=1, start=7))
+    yield case("e and g are exact halves", one_reach(1, 8_192, 8, U, segments=3, A=524_288, D=1))
+
+    high = [Row(0, HIGHEST), Row(1, HIGHEST - 1), Row(4, 0), Row(5, HIGHEST)]
+    yield case("a(S+ks+m)/(S+V) is an exact half",
+               one_reach(1, 10, 0, high, A=1_000_000, AS=25, ALPHA=25_000, LAMBDA2=HIGHEST_RATE,
+                         start=HIGHEST))
+    yield case("sS/(S+h) is an exact half",
+               one_reach(2, 10, 0, high, D=30, LAMHAT=HIGHEST_RATE, RHO=2, Kd=1, start=HIGHEST))
+
+    # the highest figure is kept to when the upward pass is over, not inside it
+    yield case("C' above the highest inside the upward pass",
+               one_reach(675, 358, 64_007, [Row(0, HIGHEST), Row(14, HIGHEST)], segments=10, D=160, A=143_216,
+                         AS=164, ALPHA=3_217, qin=882_067, LAMHAT=1_407_407, RHO=102_925, Kd=1, CL=HIGHEST,
+                         CB=HIGHEST, start=HIGHEST))
+
+    # numbers and sums at one whole and one part above
+    yield case("h is one whole, Kd at its end",
+               one_reach(2, 10, 0, U, D=20, LAMHAT=HIGHEST_RATE, Kd=HIGHEST_KD, start=HIGHEST))
+    yield case("h is one part above", one_reach(3, 10, 0, U, D=20, LAMHAT=666_666_667), 12)
+    yield case("b is above one whole and rounds to it",
+               one_reach(1, 10, 0, U, A=17, AS=6, D=10, ALPHA=705_882_353, start=9))
+    yield case("b is above one whole", one_reach(1, 10, 0, U, A=1_000_000, AS=1, D=10, ALPHA=2_001), 12)
+    yield from whole_by_rounding()
+    yield case("m is one whole: storage takes CB at once",
+               one_reach(2, 10, 0, U, D=20, LAMHAT2=HIGHEST_RATE, CB=HIGHEST, start=5))
+    yield case("ks is one whole: storage is emptied at once",
+               one_reach(2, 10, 0, U, D=20, LAMBDA2=HIGHEST_RATE, CB=HIGHEST, start=HIGHEST))
+    yield case("k is one whole: the channel is emptied at once",
+               one_reach(2, 10, 0, U, D=0, LAMBDA=HIGHEST_RATE, start=HIGHEST))
+    yield case("l is one whole: the channel takes CL at once",
+               one_reach(2, 10, 0, U, A=1, D=0, qin=100_000, CL=HIGHEST, start=5))
+    sorbing = dict(D=0, RHO=1_000_000, Kd=HIGHEST_KD, start=5)
+    yield case("s is one whole", one_reach(1, 10, 0, U, LAMHAT=2_000_000, **sorbing))
+    yield case("s is above one whole", one_reach(1, 10, 0, U, LAMHAT=2_000_001, **sorbing), 12)
+    yield case("s passes 64 bits", one_reach(3_600, 10, 0, U, LAMHAT=HIGHEST_RATE, **sorbing), 12)
+    steep = [BROOK_REACH._replace(A=1_000_000, D=1_000_000), BROOK_REACH._replace(A=1, D=1)]
+    yield case("e is far above one whole", replace(one_reach(3_600, 10, 0, U), reaches=steep), 12)
+    rates = dict.fromkeys(("ALPHA", "LAMBDA", "LAMBDA2", "LAMHAT", "LAMHAT2"), HIGHEST_RATE)
+    yield case("every rate and dt at its end",
+               one_reach(3_600, 10, 0, U, A=1_000_000, AS=1, D=1_000_000, qin=HIGHEST_FLOW, qout=HIGHEST_FLOW,
+                         RHO=1_000_000, Kd=HIGHEST_KD, **rates), 12)
+
+    # four wholes, which 32 bits hold as 0
+    yield case("a and b are four wholes", one_reach(8, 10, 0, U, D=0, ALPHA=HIGHEST_RATE), 12)
+    yield case("b is four wholes", one_reach(1, 10, 0, U, D=0, A=1_000_000, AS=1, ALPHA=8_000), 12)
+    yield case("l is four wholes", one_reach(8, 10, 0, U, D=0, A=1, qin=100_000), 12)
+    yield case("s is four wholes", one_reach(1, 10, 0, U, LAMHAT=8_000_000, **sorbing), 12)
+    yield case("e is four wholes", one_reach(8, 10, 0, U, D=100), 12)
+    yield case("e and g are four wholes", one_reach(8, 10, 0, U, segments=2, D=100), 12)
+    for name in ("LAMBDA", "LAMBDA2", "LAMHAT", "LAMHAT2"):
+        yield case(f"four wholes from {name}", one_reach(8, 10, 0, U, D=0, **{name: HIGHEST_RATE}), 12)
+    yield case("T is four wholes in four parts",
+               one_reach(2, 10, 0, U, A=1, AS=1_000_000, D=100, qin=100_000, LAMBDA=HIGHEST_RATE,
+                         ALPHA=HIGHEST_RATE), 12)
+    yield case("V is four wholes in three parts",
+               one_reach(2, 10, 0, U, D=0, A=2, AS=1, ALPHA=HIGHEST_RATE, LAMBDA2=HIGHEST_RATE,
+                         LAMHAT2=HIGHEST_RATE), 12)
+
+    # flows
+    wide = dict(segments=4, A=1_000_000)
+    yield case("the highest flow, T one whole",
+               one_reach(100, 10_000, HIGHEST_FLOW, U, D=1_000_000, start=HIGHEST, **wide))
+    yield case("a flow that rises to 100,000,000",
+               one_reach(1, 10_000, 99_999_700, U, D=1_000_000, qin=1_000, **wide))
+    yield case("a flow that rises to 100,000,001",
+               one_reach(1, 10_000, 99_999_701, U, D=1_000_000, qin=1_000, **wide), 10)
+    yield case("a flow that falls to 0", one_reach(1, 10_000, 300, U, D=1_000, qout=1_000, **wide))
+    yield case("a flow that falls to -1", one_reach(1, 10_000, 299, U, D=1_000, qout=1_000, **wide), 10)
+    yield case("a little less than nothing is rounded down to -1",
+               one_reach(1, 10, 0, U, segments=2, qin=5, qout=6), 10)
+    yield case("a little more than nothing is rounded down to 0",
+               one_reach(1, 10, 0, U, segments=2, D=0, qin=6, qout=5, CL=999))
+    yield case("no dispersion and no flow",
+               one_reach(3_600, 10, 0, U, segments=2, D=0, start=HIGHEST, LAMBDA=555_000))
+    yield case("no dispersion and a flow of 1", one_reach(1, 10, 1, U, D=0), 11)
+    yield case("Q x dx equals AD own + AD below", one_reach(2, 10, 1_000, U, segments=3, start=3))
+    yield case("Q x dx equals AD own + AD below in the last segment alone",
+               one_reach(1, 10, 999, U, segments=3, qin=5_000))
+    yield case("Q x dx is over AD own + AD below in the last segment alone",
+               one_reach(1, 10, 1_000, U, segments=3, qin=5_000), 11)
+    yield case("lateral inflow and outflow at their ends",
+               one_reach(1, 10, 500, U, segments=3, A=1_000_000, D=40, qin=HIGHEST_FLOW, qout=HIGHEST_FLOW,
+                         CL=HIGHEST, start=1))
+
+    # fields at their ends in accepted rivers
+    yield case("areas 1 and 1,000,000",
+               one_reach(1, 10, 1, U, A=1, AS=1_000_000, D=90, ALPHA=99_000_000, start=12))
+    yield case("areas 1,000,000 and 1",
+               one_reach(1, 10, 1, U, A=1_000_000, AS=1, D=90, ALPHA=1_999, start=12))
+    yield case("RHO and Kd at their ends",
+               one_reach(1, 10, 0, U, LAMHAT=1_000_000, RHO=1_000_000, Kd=HIGHEST_KD, start=HIGHEST))
+    yield case("zeros wherever zero is allowed", one_reach(1, 10, 0, [Row(0, 0)], D=0, A=1, AS=1))
+    base = plain()
+    still = [reach._replace(qin=0, qout=0, D=D) for reach, D in zip(base.reaches, (5_000, 0, 5_000))]
+    yield case("still water between dispersion", replace(base, reaches=still).with_header(top_flow=0))
+    slow = [reach._replace(ALPHA=1_000, LAMHAT=5_000, LAMHAT2=7_000) for reach in base.reaches]
+    yield case("dx and dt at their ends",
+               replace(base, reaches=slow).with_header(dx=10_000, dt=3_600, top_flow=5_000))
+    yield case("a row at start M", replace(base, rows=[Row(0, 5), Row(6, HIGHEST)]))
+    yield case("rows at M - 1 and M, only M shown",
+               replace(base, rows=[Row(0, 5), Row(5, 0), Row(6, HIGHEST)]).with_header(interval=6))
+    yield case("a row past M", replace(base, rows=[Row(0, 5), Row(7, HIGHEST)]), 8)
+    yield case("interval above half of M", base.with_header(interval=4))
+    yield case("interval above M", base.with_header(interval=7), 5)
+    yield case("gauges in every segment", replace(base, gauges=list(range(1, 10))))
+    yield case("a gauge past the last segment", replace(base, gauges=[1, 10]), 9)
+
+
+def fullest(rng: random.Random) -> Draft:
+    """64 reaches, 256 rows, 32 gauges: the longest sheet there is."""
+    reach = plain().reaches[0]._replace(segments=1, qout=3_000)
+    steps = MOST_ROWS - 1
+    return Draft(Header(dt=10, dx=1_000, M=steps, interval=steps - 1, top_flow=20_000),
+                 [reach._replace(start=concentration(rng), CL=concentration(rng), CB=concentration(rng),
+                                 Kd=rng.randint(0, 9), LAMBDA=rng.randint(0, 1_000_000))
+                  for _ in range(MOST_REACHES)],
+                 [Row(at, concentration(rng)) for at in range(MOST_ROWS)],
+                 [at * MOST_REACHES // MOST_GAUGES for at in range(1, MOST_GAUGES + 1)])
+
+
+def broad_rivers(rng: random.Random) -> Iterator[Case]:
+    """The longest sheet, a long listing, and the highest count of steps."""
+    yield Case("the longest sheet", write(fullest(rng)), ACCEPTED)
+    wide = good_river(rng, 32, 1_000).with_header(interval=1)
+    yield Case("a listing of 32,000 lines", write(replace(wide, gauges=list(range(1, 33)))), ACCEPTED)
+    most = brook(dt=1, Q=500, M=MOST_STEPS, ALPHA=100_000_000, LAMHAT=100_000_000, RHO=1_000_000, Kd=1)
+    rows = [Row(0, 0), Row(10, HIGHEST), Row(MOST_STEPS // 2, 3), Row(MOST_STEPS, HIGHEST)]
+    most = replace(most, rows=rows).with_header(interval=MOST_STEPS // 16)
+    yield Case("100,000 steps", write(most), ACCEPTED)
+
+
+# Damaged sheets
+
+
+def cut_sheets(draft: Draft) -> Iterator[Case]:
+    """The sheet cut after each of its bytes but the last."""
+    sheet = write(draft)
+    for length in range(len(sheet)):
+        yield Case(f"cut after {length} bytes", sheet[:length], 1 if length < len(MARK) else 2)
+
+
+def lengthened_sheets(rng: random.Random, draft: Draft) -> Iterator[Case]:
+    """Bytes after the last gauge, few and many; a wrong header does not come first."""
+    sheet = write(draft)
+    lengths = [length + more for length in (LONGEST, BUFFER) for more in (-1, 0, 1)]
+    for extra in (1, 2, 3, 4, 5, 8, 64, 1_000, *(length - len(sheet) for length in lengths), 200_000):
+        for tail in (bytes(extra), rng.randbytes(extra), (sheet * (1 + extra // len(sheet)))[:extra]):
+            yield Case(f"{extra} bytes added", sheet + tail, 4)
+        yield Case(f"{extra} bytes added, dt 0", write(draft.with_header(dt=0)) + bytes(extra), 4)
+        yield Case(f"{extra} bytes added, another mark", b"OTR2" + sheet[len(MARK):] + bytes(extra), 1)
+
+
+def marked_sheets(rng: random.Random, draft: Draft) -> Iterator[Case]:
+    """Another mark, whatever follows."""
+    rest = write(draft)[len(MARK):]
+    marks = [b"OTR0", b"OTR2", b"OTR3", b"OTR4", b"otr1", b"1RTO", b"OTRI", b"\0\0\0\0", b" OTR", b"OTR\n"]
+    marks += [MARK[:at] + bytes([MARK[at] ^ 1 << bit]) + MARK[at + 1:]
+              for at in range(len(MARK)) for bit in range(8)]
+    for mark in marks:
+        yield Case(f"mark {mark!r}", mark + rest, 1)
+        yield Case(f"mark {mark!r} alone", mark, 1)
+        yield Case(f"mark {mark!r}, then anything", mark + rng.randbytes(rng.randint(0, 300)), 1)
+    yield Case("nothing at all", b"", 1)
+    yield Case("the mark alone", MARK, 2)
+    for length in (4, 19, 20, 21, 24, 2_000):
+        yield Case(f"the mark and {length} zero bytes", MARK + bytes(length), 3 if length >= 24 else 2)
+        yield Case(f"{length} bytes of anything", rng.randbytes(length))
+
+
+def counted_sheets(draft: Draft) -> Iterator[Case]:
+    """Counts out of range, whole or cut, and counts that do not fit what follows."""
+    sheet = write(draft)
+    counts = [each for each in fields(draft) if each.number == 3]
+    for each in counts:
+        at = offset(draft, each.name)
+        for figure in (0, each.allowed.high + 1, 256 * each.figure, 2 ** 16, 2 ** 31, HIGHEST_FIELD):
+            if each.allowed.holds(figure):
+                continue
+            wrong = put(sheet, at, figure)
+            yield Case(f"{each.name} {figure}", wrong, 3)
+            yield Case(f"{each.name} {figure}, cut after it", wrong[:at + FIELD], 3)
+            yield Case(f"{each.name} {figure}, cut later", wrong[:len(sheet) - 1], 3)
+            yield Case(f"{each.name} {figure}, bytes added", wrong + bytes(7), 3)
+            for inside in range(FIELD):
+                yield Case(f"{each.name} {figure}, cut in it", wrong[:at + inside], 2)
+        for figure in (1, each.figure - 1, each.figure + 1, each.allowed.high):
+            yield Case(f"{each.name} {figure} for {each.figure}", put(sheet, at, figure))
+    for first, later in zip(counts, counts[1:]):
+        first_at, later_at = offset(draft, first.name), offset(draft, later.name)
+        wrong = put(sheet, later_at, 0)
+        yield Case(f"{later.name} 0, cut before it", wrong[:later_at], 2)
+        yield Case(f"{later.name} 0, cut after {first.name}", wrong[:first_at + FIELD + 1], 2)
+        yield Case(f"{later.name} 0, {first.name} 0", put(wrong, first_at, 0), 3)
+
+
+def end_of_range_sheets(draft: Draft) -> Iterator[Case]:
+    """Each field at the ends of its range and just outside, all else as it was."""
+    sheet = write(draft)
+    for each in fields(draft):
+        if each.number == 3:
+            continue
+        at = offset(draft, each.name)
+        low, high = each.allowed
+        # the highest M has a river of its own, with fewer segments: broad_rivers
+        inside = {low, low + 1} if each.name == "M" else {low, low + 1, high - 1, high}
+        for figure in sorted(inside):
+            yield Case(f"{each.name} {figure}", put(sheet, at, figure))
+        for figure in (low - 1, high + 1, 2 ** 31, HIGHEST_FIELD):
+            if figure >= 0 and not each.allowed.holds(figure):
+                yield Case(f"{each.name} {figure}", put(sheet, at, figure), each.number)
+
+
+def disordered_sheets(draft: Draft) -> Iterator[Case]:
+    """Rows and gauges that do not rise strictly, and a first row that does not start at 0."""
+    M, last = draft.header.M, draft.segments
+    for starts in ((1,), (M,), (0, 0), (0, 2, 2), (0, 3, 2), (2, 0), (0, 4, 1, 5), (0, 1, 2, 1), (1, 2, 3),
+                   (0, M, M), (0, M + 1), (M + 1,), (0, M, M + 1), (0, 5, 0)):
+        rows = [Row(begin, 100 * begin) for begin in starts]
+        yield Case(f"rows start at {starts}", write(replace(draft, rows=rows)), 8)
+    for at in range(len(draft.rows)):
+        rows = [row._replace(concentration=HIGHEST + (place == at)) for place, row in enumerate(draft.rows)]
+        yield Case(f"row {at + 1} above the highest", write(replace(draft, rows=rows)), 8)
+    for gauges in ((0,), (0, 1), (1, 1), (2, 1), (1, 3, 2), (1, 3, 3), (1, 2, 4, 3, 5), (last, 1), (last, last),
+                   (last + 1,), (1, last + 1), (HIGHEST_FIELD,), (1, HIGHEST_FIELD)):
+        yield Case(f"gauges {gauges}", write(replace(draft, gauges=list(gauges))), 9)
+    for starts in ((0,), (0, M), (0, 1, 2, 3, 4, 5, 6), (0, M - 1, M)):
+        rows = [Row(begin, HIGHEST - begin) for begin in starts]
+        yield Case(f"rows start at {starts}", write(replace(draft, rows=rows)), ACCEPTED)
+    for gauges in ((1,), (last,), (1, last), tuple(range(1, last + 1))):
+        yield Case(f"gauges {gauges}", write(replace(draft, gauges=list(gauges))), ACCEPTED)
+
+
+def draft_fault(number: int, draft: Draft, at: int) -> Draft:
+    """A draft that breaks test 5 to 12, in that reach where the test has reaches."""
+    if number == 5:
+        return draft.with_header(**(dict(dt=0), dict(dx=9), dict(top_flow=HIGHEST_FLOW + 1))[at])
+    if number == 6:
+        return draft.with_reach(at, **(dict(A=0), dict(Kd=HIGHEST_KD + 1), dict(start=HIGHEST + 1))[at])
+    if number == 7:
+        return draft.with_reach(at, segments=MOST_SEGMENTS)
+    if number == 8:
+        late = draft.rows[at]._replace(start=draft.header.M + 1)
+        return replace(draft, rows=[*draft.rows[:at], late, *draft.rows[at + 1:]])
+    if number == 9:
+        return replace(draft, gauges=[*draft.gauges[:at], 0, *draft.gauges[at + 1:]])
+    if number == 10:
+        return draft.with_reach(at, qout=HIGHEST_FLOW)
+    if number == 11:
+        return draft.with_reach(at, D=0)
+    return draft.with_reach(at, LAMBDA=HIGHEST_RATE)
+
+
+def sheet_fault(number: int, sheet: bytes, draft: Draft, late: bool) -> bytes:
+    """A sheet that breaks test 1 to 4; `late` puts it in the gauges, else in the reaches."""
+    if number == 1:
+        return b"OTR2" + sheet[len(MARK):]
+    if number == 2:
+        return sheet[:-1] if late else sheet[:offset(draft, "reach 2 D")]
+    if number == 3:
+        return put(sheet, offset(draft, "count of gauges" if late else "count of reaches"), 0)
+    return sheet + bytes(4)
+
+
+def with_faults(numbers: list[int], at: dict[int, int], late: dict[int, bool]) -> bytes:
+    """The plain river with all of these faults at once."""
+    draft = plain()
+    for number in numbers:
+        if number >= 5:
+            draft = draft_fault(number, draft, at.get(number, 0))
+    sheet = write(draft)
+    for number in (3, 4, 2, 1):
+        if number in numbers:
+            sheet = sheet_fault(number, sheet, draft, late.get(number, False))
+    return sheet
+
+
+def faulty_pairs() -> Iterator[Case]:
+    """Every two tests broken at once, the lower-numbered one early and late in the river."""
+    for low in range(1, 13):
+        for high in range(low + 1, 13):
+            if (low, high) in ((2, 3), (2, 4)):
+                continue
+            for early, later in ((0, 2), (2, 0), (1, 1)):
+                at = {low: early, high: later}
+                late = {number: place == 2 for number, place in at.items()}
+                yield Case(f"{low} at {early} and {high} at {later}", with_faults([low, high], at, late), low)
+    for number, late in ((2, {2: False, 3: True}), (3, {2: True, 3: False})):
+        yield Case(f"2 and 3, {number} met first", with_faults([2, 3], {}, late), number)
+
+
+def many_faults(rng: random.Random, count: int) -> Iterator[Case]:
+    """Two to six faults at once; the lowest number is the answer."""
+    for _ in range(count):
+        lowest = rng.randint(1, 11)
+        higher = range(lowest + 1, 13)
+        numbers = {lowest, *rng.sample(higher, min(len(higher), rng.randint(1, 5)))}
+        if 2 in numbers:
+            numbers -= {3, 4}           # a cut sheet has no bytes to follow, and decides 3 by its place
+        at = {number: rng.randrange(3) for number in numbers}
+        late = {number: rng.random() < 0.5 for number in numbers}
+        yield Case(f"faults {sorted(numbers)} at {at}", with_faults(sorted(numbers), at, late), lowest)
+
+
+def work(sheet: bytes) -> int:
+    """Segments times steps of an accepted sheet, else 0."""
+    try:
+        found = model.read_sheet(sheet)
+    except model.Refusal:
+        return 0
+    return model.segment_count(found.reaches) * found.header.M
+
+
+def changed(rng: random.Random, kind: str, at: int, sheet: bytes) -> bytes:
+    """One change of a sheet, at an offset."""
+    if kind == "a bit":
+        return sheet[:at] + bytes([sheet[at] ^ 1 << rng.randrange(8)]) + sheet[at + 1:]
+    if kind == "a byte":
+        return sheet[:at] + rng.randbytes(1) + sheet[at + 1:]
+    if kind == "a field":
+        figure = rng.choice((0, 1, rng.randint(0, HIGHEST_FIELD)))
+        return put(sheet, max(len(MARK), at // FIELD * FIELD), figure)
+    stretch = rng.choice((1, FIELD, FIELD * len(Reach._fields)))
+    if kind == "a stretch lost":
+        return sheet[:at] + sheet[at + stretch:]
+    if kind == "a stretch doubled":
+        return sheet[:at] + sheet[max(0, at - stretch):]
+    return sheet[:at]
+
+
+def changed_sheets(rng: random.Random, count: int, most: int = 20_000) -> Iterator[Case]:
+    """A random river's sheet with one change; one that raises M far is left out."""
+    kinds = ("a bit", "a byte", "a byte", "a field", "a field", "a stretch lost", "a stretch doubled", "a cut")
+    made = 0
+    while made < count:
+        draft = good_river(rng, rng.randint(1, 6), rng.randint(1, 4))
+        before = write(draft)
+        kind, at = rng.choice(kinds), rng.randrange(len(before))
+        sheet = changed(rng, kind, at, before)
+        if work(sheet) <= most:
+            made += 1
+            yield Case(f"{kind} at {at}: {describe(draft)}", sheet)
+
+
+def paused_sheets(rng: random.Random) -> Iterator[Case]:
+    """Sheets that arrive in pieces: the answer is that of the whole sheet."""
+    sheet = write(plain())
+    for pauses in ((1,), (3,), (4,), (30,), (100, 101), (len(sheet) - 1,), (len(sheet),), (4, 24, 28, 200)):
+        yield Case(f"pauses at {pauses}", sheet, ACCEPTED, "", pauses)
+    yield Case("a byte added after a pause", sheet + b"\0", 4, "", (len(sheet),))
+    yield Case("cut, after a pause", sheet[:-1], 2, "", (len(sheet) - 9,))
+    full = write(replace(fullest(rng), rows=[Row(0, 9)]).with_header(M=1, interval=1))
+    yield Case("a long sheet in pieces", full, ACCEPTED, "", (1_000, 4_096, 4_200))
