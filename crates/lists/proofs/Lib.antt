@@ -2,3 +2,4 @@ pub mod Lowest
 pub mod Tab
 pub mod Over
 pub mod Shorter
+pub mod Either

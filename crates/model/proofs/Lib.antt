@@ -1,4 +1,5 @@
 pub mod Ranges
 pub mod Refusals
+pub mod Clamp
 pub mod Bench
 pub mod TwoSets

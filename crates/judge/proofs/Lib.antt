@@ -1,0 +1,4 @@
+pub mod Outside
+pub mod Found
+pub mod RiverLaws
+pub mod StateTests

@@ -1,0 +1,4 @@
+pub mod River
+pub mod Lengths
+pub mod Writing
+pub mod Judging

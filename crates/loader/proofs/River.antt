@@ -1,0 +1,187 @@
+-- What a sheet that tests 1 to 9 pass gives the walk down its river, and tests 10 to 12 of a segment by itself.
+use mathlib.Core.Bool.{false, cond}
+use mathlib.Core.List.{List}
+use mathlib.Core.Path.{_≡_, refl, sym, ap, _∙_}
+use Prim.Native.Nat.{ℕ, _+_, _^_, _<_, _≤_}
+use native.Mathlib.Omega.{arith}
+use borrow.Author.Tests.{ne-eqb}
+use lib.Dec.{eqb}
+use lib.ListN.{length}
+use Rattle.lists.proofs.Tab.{length-tab, getD-tab}
+use Rattle.model.specs.Sheet.{Reach, reachOn, reaches, reachCount, segmentCount, dt, dx, topFlow, sectionEnd, rowCountAt, gaugeCountAt, rowsAt, gaugesAt}
+use Rattle.model.specs.Flow.{Course, courseOf}
+use Rattle.model.specs.HalfStep as HalfStep
+use Rattle.model.specs.Load.{sumFault}
+use Rattle.terms.specs.Says.{reachSays}
+use Rattle.terms.specs.declared.Reach as Code
+use Rattle.halfstep.specs.Ranges.{InRange}
+use Rattle.halfstep.specs.Walk.{reachNo, atTop, reachBelow, further, cursorAt, Walks}
+use Rattle.halfstep.specs.Site.{siteOf, flowFaultOf, faceFaultOf, numbersOf, Passes, StandFor}
+use Rattle.halfstep.specs.declared.Site.{Site}
+use Rattle.halfstep.specs.declared.walk.Cursor.{Cursor}
+use Rattle.halfstep.proofs.Walking.{Along}
+use Rattle.halfstep.proofs.Sites.{flow-fault-at, face-fault-at, numbers-at}
+use Rattle.halfstep.proofs.Segments.{Sited, Walked, walked-top, known-at, walks-at, walked-next, below-at, sited}
+use Rattle.sheet.proofs.Passed.{ReachWithin, passed}
+use Rattle.loader.specs.Segments.{courseFault, siteFault, Clear, ClearSite, Read, IsSegment}
+
+-- test 6 leaves the fields in their ranges
+in-range : {r : Reach} → ReachWithin r → InRange r
+in-range w = record {
+  segments = w .segments .low;
+  dispersion = w .dispersion .high;
+  area-low = w .area .low;
+  area = w .area .high;
+  area2-low = w .area2 .low;
+  area2 = w .area2 .high;
+  alpha = w .alpha .high;
+  qin = w .qin .high;
+  qout = w .qout .high;
+  rho = w .rho .high;
+  kd = w .kd .high;
+}
+
+-- reach k, read from the sheet
+pub reach-at : (sheet : List ℕ) (k : ℕ) → k < length (reaches sheet) → reachOn sheet k ≡ reachNo (reaches sheet) k
+unfolding reaches
+reach-at sheet k h = sym (getD-tab (reachOn sheet) (reachCount sheet) k _ (rw length-tab at h))
+
+-- the sheet's river
+pub along : {sheet : List ℕ} {n : ℕ} → Read sheet n → Along n (reaches sheet) (courseOf sheet)
+unfolding courseOf segmentCount reaches
+along {sheet} {n} r =
+    let p = passed sheet (r .passed) in
+    record {
+      river = refl;
+      count = r .count;
+      ranges = λ k h. rw (← reach-at sheet k h) (in-range (p .reach k (rw length-tab at h)));
+      steps = record { time = p .dt .high; length-low = p .dx .low; length = p .dx .high };
+      few = omega (arith, r .count, p .segments .high);
+    }
+
+-- at most 1,024 segments
+pub few : {sheet : List ℕ} {n : ℕ} → Read sheet n → n ≤ 1024
+few {sheet} r = omega (arith, r .count, passed sheet (r .passed) .segments .high)
+
+-- where the walk stands is a segment of the river
+pub is-segment : {course : Course} {i : ℕ} {site : Site} → Sited course i site → IsSegment course i site
+is-segment s = record {
+  fields = s .fields;
+  own = s .place .own;
+  flow = flow-fault-at (s .place);
+  face = face-fault-at (s .place);
+  numbers = numbers-at (s .place);
+}
+
+module _ {course : Course} {i : ℕ} {site : Site} (s : IsSegment course i site) where
+  -- a test of the segment by itself
+  pub site-fault : (number : ℕ) → siteFault number site ≡ courseFault number course i
+  unfolding siteFault courseFault
+  site-fault number = rw (s .flow, s .face, s .numbers)
+
+  -- tests of lower numbers pass the segment by itself
+  pub clear-site : {number n : ℕ} → 10 ≤ number → Clear number n course → i < n → ClearSite number site
+  clear-site low clear h = record {
+    low = low;
+    fields = s .fields;
+    each = λ k l m. site-fault k ∙ clear .each k l m i h;
+  }
+
+  -- the numbers that stand for the segment's are those, where test 12 passes
+  pub numbers-are : {n : ℕ} {given : HalfStep.Numbers} → Clear 13 n course → i < n → StandFor given (numbersOf site) → given ≡ HalfStep.numbers course i
+  unfolding courseFault
+  numbers-are clear h stand = stand .same (rw (s .numbers) (clear .each 12 (omega arith) (omega arith) i h)) ∙ s .numbers
+
+-- test 10 passes
+pub flow-site : {number : ℕ} {site : Site} → ClearSite number site → 10 < number → flowFaultOf site ≡ false
+unfolding siteFault
+flow-site c h = c .each 10 (omega arith) h
+
+-- tests 10 and 11 pass
+pub passes-site : {number : ℕ} {site : Site} → ClearSite number site → 11 < number → Passes site
+unfolding siteFault
+passes-site c h = record {
+  fields = c .fields;
+  flow = c .each 10 (omega arith) (omega arith);
+  face = c .each 11 (omega arith) (omega arith);
+}
+
+-- the sheet has a reach
+some-reach : {sheet : List ℕ} {n : ℕ} → Read sheet n → 0 < length (reaches sheet)
+unfolding reaches
+some-reach {sheet} r = rw length-tab (passed sheet (r .passed) .reachCounts .low)
+
+-- a walk that starts at the top
+pub walked-start : {sheet : List ℕ} {n : ℕ} {first : Code.Reach} {at : Cursor} → Read sheet n → reachSays first ≡ reachOn sheet 0 →
+    at ≡ atTop (reachSays first) → Walked (reaches sheet) (courseOf sheet) 0 at
+walked-start {sheet} r is e = record { same = e ∙ walked-top {course = courseOf sheet} (is ∙ reach-at sheet 0 (some-reach r)) .same }
+
+-- the cursor of segment i
+pub stood : (sheet : List ℕ) (i : ℕ) (at : Cursor) → at ≡ cursorAt (reaches sheet) (dx sheet) i → Walked (reaches sheet) (courseOf sheet) i at
+unfolding courseOf
+stood sheet i at e = record { same = e }
+
+-- and back
+pub stands : (sheet : List ℕ) (i : ℕ) (at : Cursor) → Walked (reaches sheet) (courseOf sheet) i at → at ≡ cursorAt (reaches sheet) (dx sheet) i
+unfolding courseOf
+stands sheet i at w = w .same
+
+-- the walk stands at segment i
+module _ {sheet : List ℕ} {n i : ℕ} {at : Cursor} (r : Read sheet n) (h : i < n) (w : Walked (reaches sheet) (courseOf sheet) i at) where
+  module _ {own : Code.Reach} (is : reachSays own ≡ reachOn sheet (at .reach)) where
+    -- the reach that was read is the segment's
+    own-read : reachSays own ≡ reachNo (reaches sheet) (at .reach)
+    own-read = is ∙ reach-at sheet (at .reach) (known-at (along r) h w .stands .known)
+
+    -- the walk can go on
+    pub walks-read : Walks (dx sheet) (reachSays own) at
+    unfolding courseOf
+    walks-read = walks-at (along r) h w own-read
+
+    -- the segment, from its reach and the one below
+    pub site-read : {below : Code.Reach} (b : ℕ) → b ≡ cond (eqb (i + 1) n) (at .reach) (reachBelow (reachSays own) at) → reachSays below ≡ reachOn sheet b →
+        IsSegment (courseOf sheet) i (siteOf (dt sheet) (dx sheet) (topFlow sheet) at own below (eqb (i + 1) n))
+    unfolding courseOf
+    site-read b e f =
+        is-segment
+        (sited (along r) h w own-read
+        (f ∙ ap (reachOn sheet) e ∙ reach-at sheet _ (below-at (along r) h w own-read .known)))
+
+  -- and goes on from there
+  module _ {site : Site} (s : IsSegment (courseOf sheet) i site) {step : ℕ} (d : step ≡ dx sheet) where
+    -- the site's reach is the cursor's
+    own-here : reachSays (site .own) ≡ reachNo (reaches sheet) (at .reach)
+    own-here = sym (s .own) ∙ known-at (along r) h w .own
+
+    pub walks-here : Walks step (reachSays (site .own)) at
+    unfolding courseOf
+    walks-here = rw d (walks-at (along r) h w own-here)
+
+    -- one segment further
+    pub walked-here : {next : Cursor} → next ≡ further step (reachSays (site .own)) at → Walked (reaches sheet) (courseOf sheet) (i + 1) next
+    unfolding courseOf
+    walked-here e = record { same = e ∙ rw d (walked-next (along r) h w own-here .same) }
+
+-- which test a number names
+module _ (number : ℕ) (site : Site) where
+  pub site-flow : number ≡ 10 → flowFaultOf site ≡ siteFault number site
+  unfolding siteFault
+  site-flow e = rw e
+
+  pub site-face : number ≡ 11 → faceFaultOf site ≡ siteFault number site
+  unfolding siteFault
+  site-face e = rw e
+
+  pub site-sum : (number ≡ 10 → ⊥) → (number ≡ 11 → ⊥) → sumFault (numbersOf site) ≡ siteFault number site
+  unfolding siteFault
+  site-sum p q = rw (ne-eqb _ _ p, ne-eqb _ _ q)
+
+-- where the rows and the gauges begin fits 32 bits
+module _ {sheet : List ℕ} {n : ℕ} (r : Read sheet n) where
+  pub rows-fit : rowsAt sheet < 2 ^ 31
+  unfolding rowCountAt sectionEnd
+  rows-fit = omega (arith, passed sheet (r .passed) .reachCounts .high)
+
+  pub gauges-fit : gaugesAt sheet < 2 ^ 32
+  unfolding gaugeCountAt sectionEnd
+  gauges-fit = omega (arith, rows-fit, passed sheet (r .passed) .rowCounts .high)

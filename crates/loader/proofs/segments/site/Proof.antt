@@ -1,0 +1,41 @@
+-- `site` meets its contract: the reaches read are those of the segment and of the one below. Assumes nothing.
+use borrow.Author.Needs.{needs}
+use Rattle.model.specs.Sheet.{dx}
+use Rattle.terms.specs.Says.{reachSays}
+use Rattle.halfstep.specs.Walk.{Walks}
+use Rattle.loader.proofs.River.{stood, walks-read, site-read}
+use Rattle.loader.proofs.segments.site.Statement.{statement}
+use Rattle.loader.proofs.segments.site.Tie as tie
+
+-- what the walk has at this segment
+walks : (c : tie.After-reach) → Walks (dx (c .before .before .before .args .sheet .now)) (reachSays (c .reach .result)) (c .before .before .before .args .at)
+walks c = let p = c .before .before .before .pre in walks-read (p .0) (p .1) (stood _ _ _ (p .2)) (c .reach .ensures)
+
+below-requires : tie.Need-below-requires
+below-requires c κs = (walks c .passed, walks c .reach)
+
+new-requires : tie.Need-new-requires
+new-requires c κs = walks (c .before .before .before .before .before) .gain
+
+returns : tie.Need-returns
+returns c =
+    let own = c .before .before .before .before .before .before in
+    let p = own .before .before .before .pre in
+    rw (c .new .ensures, c .before .dx .ensures, c .before .before .dt .ensures, c .before .before .before .top-flow .ensures)
+    (site-read (p .0) (p .1) (stood _ _ _ (p .2)) (own .reach .ensures) _ (c .before .before .before .before .before .below .ensures) (c .before .before .before .before .reach2 .ensures))
+
+pub site-spec : {M : Type 1} → statement M
+site-spec =
+    tie.close
+    (tie.spec
+    (λ c. search needs)
+    (λ c κs. search needs)
+    (λ c. search needs)
+    below-requires
+    (λ c. search needs)
+    (λ c κs. search needs)
+    (λ c κs. search needs)
+    (λ c κs. search needs)
+    (λ c κs. search needs)
+    new-requires
+    returns)

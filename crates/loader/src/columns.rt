@@ -1,0 +1,146 @@
+// The fourteen lists of a loading: test 13 of their lengths, and what an accepted loading writes.
+ghost use mathlib.Core.Path.{_≡_};
+ghost use mathlib.Core.Bool.{_||_};
+ghost use lib.Dec.{ltb};
+ghost use Rattle.lists.specs.Lists.{anyShorter};
+ghost use Rattle.model.specs.Flow.{courseOf};
+ghost use Rattle.model.specs.State.{columnLists, loadedSegments, writeSegments};
+ghost use Rattle.terms.specs.Lent.{columns, Long};
+ghost use Rattle.loader.specs.Segments.{Clear, Read};
+use crate::segments::site;
+use halfstep::walk::Cursor;
+use sheet::fields::dx;
+use sheet::fields::reach;
+
+// A list is shorter than the river, or others are.
+fn short(n: usize, length: usize, others: bool) -> bool
+    ensures { λ r. ⌜ r ≡ (ltb length n || others) ⌝ }
+{
+    if length < n {
+        return true;
+    }
+    others
+}
+
+// One of the lists is shorter than the river.
+pub fn any_short(
+    n: usize,
+    e: &[u32],
+    g: &[u32],
+    l: &[u32],
+    a: &[u32],
+    b: &[u32],
+    k: &[u32],
+    ks: &[u32],
+    h: &[u32],
+    m: &[u32],
+    s: &[u32],
+    cl: &[u32],
+    cb: &[u32],
+    kd: &[u32],
+    start: &[u32],
+) -> bool
+    ensures { λ r. ⌜ r ≡ anyShorter n (columnLists (columns (now (e .entry)) (now (g .entry)) (now (l .entry)) (now (a .entry)) (now (b .entry)) (now (k .entry)) (now (ks .entry)) (now (h .entry)) (now (m .entry)) (now (s .entry)) (now (cl .entry)) (now (cb .entry)) (now (kd .entry)) (now (start .entry)))) ⌝ }
+{
+    short(
+        n,
+        e.len(),
+        short(
+            n,
+            g.len(),
+            short(
+                n,
+                l.len(),
+                short(
+                    n,
+                    a.len(),
+                    short(
+                        n,
+                        b.len(),
+                        short(
+                            n,
+                            k.len(),
+                            short(
+                                n,
+                                ks.len(),
+                                short(
+                                    n,
+                                    h.len(),
+                                    short(
+                                        n,
+                                        m.len(),
+                                        short(
+                                            n,
+                                            s.len(),
+                                            short(
+                                                n,
+                                                cl.len(),
+                                                short(
+                                                    n,
+                                                    cb.len(),
+                                                    short(
+                                                        n,
+                                                        kd.len(),
+                                                        short(n, start.len(), false),
+                                                    ),
+                                                ),
+                                            ),
+                                        ),
+                                    ),
+                                ),
+                            ),
+                        ),
+                    ),
+                ),
+            ),
+        ),
+    )
+}
+
+// "A loading gives each segment's half-step numbers, CL, CB, Kd and start figure in lists": the first n entries of each.
+pub fn fill(
+    sheet: &[u8],
+    n: usize,
+    e: &mut [u32],
+    g: &mut [u32],
+    l: &mut [u32],
+    a: &mut [u32],
+    b: &mut [u32],
+    k: &mut [u32],
+    ks: &mut [u32],
+    h: &mut [u32],
+    m: &mut [u32],
+    s: &mut [u32],
+    cl: &mut [u32],
+    cb: &mut [u32],
+    kd: &mut [u32],
+    start: &mut [u32],
+)
+    requires { ⌜ Read (now sheet) n × Clear 13 n (courseOf (now sheet)) × Long n (columns (now e) (now g) (now l) (now a) (now b) (now k) (now ks) (now h) (now m) (now s) (now cl) (now cb) (now kd) (now start)) ⌝ }
+    ensures { λ r. ⌜ columns (now (e .exit)) (now (g .exit)) (now (l .exit)) (now (a .exit)) (now (b .exit)) (now (k .exit)) (now (ks .exit)) (now (h .exit)) (now (m .exit)) (now (s .exit)) (now (cl .exit)) (now (cb .exit)) (now (kd .exit)) (now (start .exit)) ≡ writeSegments (loadedSegments (now (sheet .entry))) (columns (now (e .entry)) (now (g .entry)) (now (l .entry)) (now (a .entry)) (now (b .entry)) (now (k .entry)) (now (ks .entry)) (now (h .entry)) (now (m .entry)) (now (s .entry)) (now (cl .entry)) (now (cb .entry)) (now (kd .entry)) (now (start .entry))) ⌝ }
+{
+    let step = dx(sheet);
+    let mut at = Cursor::start(reach(sheet, 0));
+    let mut i: usize = 0;
+    while i < n {
+        let here = site(sheet, at, n, i);
+        let own = here.own;
+        let numbers = here.numbers();
+        e[i] = numbers.e;
+        g[i] = numbers.g;
+        l[i] = numbers.l;
+        a[i] = numbers.a;
+        b[i] = numbers.b;
+        k[i] = numbers.k;
+        ks[i] = numbers.ks;
+        h[i] = numbers.h;
+        m[i] = numbers.m;
+        s[i] = numbers.s;
+        cl[i] = own.cl;
+        cb[i] = own.cb;
+        kd[i] = own.kd;
+        start[i] = own.start;
+        at = at.next(own, step);
+        i += 1;
+    }
+}

@@ -1,0 +1,61 @@
+// The segments of a sheet that tests 1 to 9 pass, one after another down the river, and tests 10 to 12.
+ghost use mathlib.Core.Path.{_≡_};
+ghost use Prim.Native.Nat.{_<_, _≤_};
+ghost use Rattle.model.specs.Sheet.{dx, reaches};
+ghost use Rattle.model.specs.Flow.{courseOf};
+ghost use Rattle.model.specs.Refusals.{segment, testEach};
+ghost use Rattle.terms.specs.Says.{findingSays};
+ghost use Rattle.halfstep.specs.Walk.{cursorAt};
+ghost use Rattle.loader.specs.Segments.{courseFault, siteFault, Clear, ClearSite, Read, IsSegment};
+use halfstep::Site;
+use halfstep::walk::Cursor;
+use sheet::fields::dt;
+use sheet::fields::dx;
+use sheet::fields::reach;
+use sheet::fields::top_flow;
+use terms::Finding;
+use terms::Place;
+
+// Segment i of n, where the walk down the river stands.
+pub fn site(sheet: &[u8], at: Cursor, n: usize, i: usize) -> Site
+    requires { ⌜ Read (now sheet) n × (i < n) × (at ≡ cursorAt (reaches (now sheet)) (dx (now sheet)) i) ⌝ }
+    ensures { λ r. ⌜ IsSegment (courseOf (now (sheet .entry))) i r ⌝ }
+{
+    let own = reach(sheet, at.reach as usize);
+    let last = i + 1 == n;
+    let below = reach(sheet, at.below(own, last) as usize);
+    Site::new(at, own, below, last, top_flow(sheet), dt(sheet), dx(sheet))
+}
+
+// 10. "A flow is below 0 or above 100,000,000", 11. "Q × dx exceeds AD own + AD below", 12. "T, V or h exceeds one whole".
+fn fault(number: u32, site: Site) -> bool
+    requires { ⌜ ClearSite number site ⌝ }
+    ensures { λ r. ⌜ r ≡ siteFault number site ⌝ }
+{
+    if number == 10 {
+        return site.flow_fault();
+    }
+    if number == 11 {
+        return site.face_fault();
+    }
+    site.numbers().sum_fault()
+}
+
+// Test 10, 11 or 12 over the whole river: "the lowest at fault".
+pub fn course_test(sheet: &[u8], n: usize, number: u32) -> Finding
+    requires { ⌜ Read (now sheet) n × (10 ≤ number) × Clear number n (courseOf (now sheet)) ⌝ }
+    ensures { λ r. ⌜ findingSays r ≡ testEach number segment n (courseFault number (courseOf (now (sheet .entry)))) ⌝ }
+{
+    let step = dx(sheet);
+    let mut at = Cursor::start(reach(sheet, 0));
+    let mut i: usize = 0;
+    while i < n {
+        let here = site(sheet, at, n, i);
+        if fault(number, here) {
+            return Finding::Fails(number, Place::Segment(i as u32 + 1));
+        }
+        at = at.next(here.own, step);
+        i += 1;
+    }
+    Finding::Passes
+}

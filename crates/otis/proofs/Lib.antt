@@ -1,0 +1,4 @@
+pub mod RowLaws
+pub mod Starting
+pub mod Reporting
+pub mod Stepping

@@ -1,0 +1,3 @@
+pub mod Says
+pub mod Row
+pub mod Outcomes

@@ -1,0 +1,34 @@
+-- "For an answer that is an enum, a definition gives this paper's number and values for each of its cases."
+use Prim.Native.Nat.{ℕ}
+use Rattle.model.specs.Refusals.{Outcome, accepted, refused}
+use Rattle.model.specs.Calls as Document
+use Rattle.terms.specs.Says.{placeSays}
+use Rattle.otis.specs.declared.River.{River}
+use Rattle.otis.specs.declared.Figures.{Figures}
+use Rattle.otis.specs.declared.Start.{Start}
+use Rattle.otis.specs.declared.Start.the-variants as Start
+use Rattle.otis.specs.declared.Step.{Step}
+use Rattle.otis.specs.declared.Step.the-variants as Step
+use Rattle.otis.specs.declared.Report.{Report}
+use Rattle.otis.specs.declared.Report.the-variants as Report
+use Rattle.otis.specs.declared.Upstream.{Upstream}
+use Rattle.otis.specs.declared.Upstream.the-variants as Upstream
+
+abbrev pub riverSays : River → Document.River
+riverSays r = record { upstream = r .upstream; steps = r .steps }
+
+abbrev pub startSays : Start → Outcome Document.River
+startSays (Start.Started river) = accepted (riverSays river)
+startSays (Start.Refused number place) = refused number (placeSays place)
+
+abbrev pub stepSays : Step → Outcome Document.River
+stepSays (Step.Stepped river) = accepted (riverSays river)
+stepSays (Step.Refused number place) = refused number (placeSays place)
+
+abbrev pub reportSays : Report → Outcome Document.Reported
+reportSays (Report.Reported f) = accepted (record { channel = f .channel; storage = f .storage; sediment = f .sediment })
+reportSays (Report.Refused number place) = refused number (placeSays place)
+
+abbrev pub upstreamSays : Upstream → Outcome ℕ
+upstreamSays (Upstream.Figure u) = accepted u
+upstreamSays (Upstream.Refused number place) = refused number (placeSays place)

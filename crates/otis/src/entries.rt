@@ -1,0 +1,36 @@
+// The figures of the segments in their lists.
+ghost use mathlib.Core.Path.{_≡_};
+ghost use Prim.Native.Nat.{_*_, _<_, _≤_};
+ghost use lib.ListN.{length, getD};
+ghost use Rattle.lists.specs.Lists.{tab, over};
+use crate::Figures;
+
+// The first n entries of `from` over those of `to`.
+pub fn copy(n: usize, from: &[u32], to: &mut [u32])
+    requires { ⌜ (n ≤ length (now from)) × (n ≤ length (now to)) ⌝ }
+    ensures { λ r. ⌜ now (to .exit) ≡ over (tab 0 n (λ i. getD (now (from .entry)) i 0)) (now (to .entry)) ⌝ }
+{
+    let mut i: usize = 0;
+    while i < n {
+        to[i] = from[i];
+        i += 1;
+    }
+}
+
+fn product(a: u32, b: u32) -> u64
+    ensures { λ r. ⌜ r ≡ a * b ⌝ }
+{
+    (a as u64) * (b as u64)
+}
+
+// The figures of the segment at i, which counts from 0.
+pub fn at(i: usize, kd: &[u32], channel: &[u32], storage: &[u32], sediment: &[u32]) -> Figures
+    requires { ⌜ (i < length (now kd)) × (i < length (now channel)) × (i < length (now storage)) × (i < length (now sediment)) ⌝ }
+    ensures { λ r. ⌜ r ≡ record { channel = getD (now (channel .entry)) i 0; storage = getD (now (storage .entry)) i 0; sediment = getD (now (kd .entry)) i 0 * getD (now (sediment .entry)) i 0 } ⌝ }
+{
+    Figures {
+        channel: channel[i],
+        storage: storage[i],
+        sediment: product(kd[i], sediment[i]),
+    }
+}

@@ -1,0 +1,83 @@
+-- Laws of reaches, rows and gauges: those of a sheet, entry by entry, and the rule on starts, told by a row and the one before it.
+use mathlib.Core.Path.{_≡_, refl, sym, _∙_}
+use mathlib.Core.Bool.{false, not, _||_}
+use mathlib.Core.List.{List}
+use Prim.Native.Nat.{ℕ, zero, suc, _-_, _<_, _≤_}
+use native.Mathlib.Omega.{arith}
+use borrow.Author.Tests.{eqb-true, not-false, leb-false, ltb-false}
+use lib.Dec.{eqb, leb, ltb}
+use lib.ListN.{length, getD}
+use Rattle.lists.proofs.Tab.{getD-tab}
+use Rattle.lists.proofs.Shorter.{neither, not-rising}
+use Rattle.model.specs.Ranges.{_to_, outside, concentration, reachSection, rowSection, gaugeSection}
+use Rattle.model.specs.Sheet.{recordField, reachCountAt, reachFields, rowCountAt, gaugeCountAt, rowCount, gaugeCount}
+use Rattle.model.specs.Sheet.{rowStarts, rowConcentrations, gauges}
+use Rattle.model.specs.Load.{startsLate, rowFault, gaugeFault}
+use Rattle.sheet.proofs.InRange.{Within, within}
+
+-- a reach's fields
+pub reach-fields : (sheet : List ℕ) (i : ℕ) → length (reachFields sheet i) ≡ 16
+unfolding reachFields
+reach-fields sheet i = refl
+
+pub reach-field : (sheet : List ℕ) (i k : ℕ) → k < 16 → getD (reachFields sheet i) k 0 ≡ recordField sheet reachCountAt reachSection i k
+unfolding reachFields
+reach-field sheet i k h = getD-tab (recordField sheet reachCountAt reachSection i) 16 k 0 h
+
+-- a sheet's row j and gauge j
+module _ (sheet : List ℕ) (j : ℕ) where
+  pub row-start : j < rowCount sheet → getD (rowStarts sheet) j 0 ≡ recordField sheet (rowCountAt sheet) rowSection j 0
+  unfolding rowStarts
+  row-start h = getD-tab _ (rowCount sheet) j 0 h
+
+  pub row-concentration : j < rowCount sheet → getD (rowConcentrations sheet) j 0 ≡ recordField sheet (rowCountAt sheet) rowSection j 1
+  unfolding rowConcentrations
+  row-concentration h = getD-tab _ (rowCount sheet) j 0 h
+
+  pub gauge : j < gaugeCount sheet → getD (gauges sheet) j 0 ≡ recordField sheet (gaugeCountAt sheet) gaugeSection j 0
+  unfolding gauges
+  gauge h = getD-tab _ (gaugeCount sheet) j 0 h
+
+-- the first row
+pub late-first : (starts : List ℕ) (j start : ℕ) → getD starts j 0 ≡ start → j ≡ 0 → not (eqb start 0) ≡ startsLate starts j
+unfolding startsLate
+late-first starts zero start s e = rw (← s)
+late-first starts (suc j) start s e = absurd (omega arith)
+
+-- another row
+pub late-next : (starts : List ℕ) (j before start : ℕ) → getD starts j 0 ≡ start → getD starts (j - 1) 0 ≡ before → 0 < j →
+    leb start before ≡ startsLate starts j
+unfolding startsLate
+late-next starts zero before start s b h = absurd (omega arith)
+late-next starts (suc j) before start s b h = rw (not-rising starts (suc j) h, s, b)
+
+-- a row that keeps its rule, of the sheet's lists or of lent ones
+pub record RowRight (M : ℕ) (starts concentrations : List ℕ) (j : ℕ) : Type 0 where
+  pub first : j ≡ 0 → getD starts j 0 ≡ 0
+  pub rises : 0 < j → getD starts (j - 1) 0 < getD starts j 0
+  pub start : getD starts j 0 ≤ M
+  pub figure : Within concentration (getD concentrations j 0)
+
+pub row-right : (M : ℕ) (starts concentrations : List ℕ) (j : ℕ) → rowFault M starts concentrations j ≡ false →
+    RowRight M starts concentrations j
+unfolding rowFault
+row-right M starts concentrations j e =
+    let two = neither (startsLate starts j || ltb M (getD starts j 0)) _ e in
+    let one = neither (startsLate starts j) _ (two .0) in
+    record {
+      first = λ z. eqb-true _ _ (not-false _ (late-first starts j _ refl z ∙ one .0));
+      rises = λ h. leb-false _ _ (late-next starts j _ _ refl refl h ∙ one .0);
+      start = ltb-false _ _ (one .1);
+      figure = within _ _ (two .1);
+    }
+
+-- a gauge that keeps its rule
+pub record GaugeRight (n : ℕ) (gauges : List ℕ) (j : ℕ) : Type 0 where
+  pub segment : Within (1 to n) (getD gauges j 0)
+  pub rises : 0 < j → getD gauges (j - 1) 0 < getD gauges j 0
+
+pub gauge-right : (n : ℕ) (gauges : List ℕ) (j : ℕ) → gaugeFault n gauges j ≡ false → GaugeRight n gauges j
+unfolding gaugeFault
+gauge-right n gauges j e =
+    let two = neither (outside (1 to n) (getD gauges j 0)) _ e in
+    record { segment = within _ _ (two .0); rises = λ h. leb-false _ _ (sym (not-rising gauges j h) ∙ two .1) }

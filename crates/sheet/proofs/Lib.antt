@@ -1,0 +1,9 @@
+pub mod Reading
+pub mod Tables
+pub mod Tests
+pub mod Marked
+pub mod Walking
+pub mod InRange
+pub mod Segments
+pub mod Entries
+pub mod Passed

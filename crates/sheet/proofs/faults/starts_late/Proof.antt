@@ -1,0 +1,15 @@
+-- `starts_late` meets its contract: the first row and any other. Assumes nothing.
+use native.Mathlib.Omega.{arith}
+use Rattle.sheet.proofs.Entries.{late-first, late-next}
+use Rattle.sheet.proofs.faults.starts_late.Statement.{statement}
+use Rattle.sheet.proofs.faults.starts_late.Tie as tie
+
+returns : tie.Need-returns
+returns c = λ starts concentrations x row. late-first starts _ _ (row .start-is) (c .if1 .taken)
+
+returns-2 : tie.Need-returns-2
+returns-2 c = λ starts concentrations x row.
+    late-next starts _ _ _ (row .start-is) (row .before-is (omega arith)) (omega arith)
+
+pub starts-late-spec : {M : Type 1} → statement M
+starts-late-spec = tie.close (tie.spec returns returns-2)

@@ -1,0 +1,40 @@
+// Where things stand on a sheet. No slice reaches the highest usize, so a position that is not below it counts as that one: either is past the end.
+ghost use mathlib.Core.Path.{_≡_};
+ghost use Prim.Native.Nat.{_+_, _*_, _-_, _^_, _<_, _≤_, min};
+ghost use Rattle.model.specs.Sheet.{sectionEnd};
+ghost use Rattle.sheet.specs.Tables.{sectionSays};
+use crate::fields::field;
+use crate::ranges::Section;
+
+// The bytes of the mark, of a field and of a count.
+pub const SIZE: usize = 4;
+
+const HEADER_WIDTH: usize = 5;
+
+pub const REACH_COUNT_AT: usize = SIZE + SIZE * HEADER_WIDTH;
+
+// As far as a position can be.
+const FAR: usize = usize::MAX;
+
+pub fn sum(a: usize, b: usize) -> usize
+    ensures { λ r. ⌜ r ≡ min (a + b) (2 ^ 64 - 1) ⌝ }
+{
+    if FAR - a < b { FAR } else { a + b }
+}
+
+pub fn product(a: usize, b: usize) -> usize
+    ensures { λ r. ⌜ r ≡ min (a * b) (2 ^ 64 - 1) ⌝ }
+{
+    if b == 0 {
+        return 0;
+    }
+    if FAR / b < a { FAR } else { a * b }
+}
+
+// Where a section ends whose count stands at `at`.
+pub fn section_end(sheet: &[u8], at: usize, section: Section) -> usize
+    requires { ⌜ (at < 2 ^ 42) × (section .width ≤ 16) ⌝ }
+    ensures { λ r. ⌜ (r ≡ sectionEnd (now (sheet .entry)) at (sectionSays section)) × (r < at + 2 ^ 39) ⌝ }
+{
+    at + SIZE + SIZE * ((section.width as usize) * (field(sheet, at) as usize))
+}

@@ -1,0 +1,66 @@
+// The river sheet: its fields, and tests 1 to 9 of document 01 on any bytes.
+ghost use mathlib.Core.Path.{_≡_};
+ghost use lib.ListN.{getD};
+ghost use Rattle.model.specs.Refusals.{passes, test, first};
+ghost use Rattle.model.specs.Load.{sheetTests};
+ghost use Rattle.terms.specs.Says.{findingSays};
+
+pub mod faults;
+pub mod fields;
+mod layout;
+pub mod ranges;
+pub mod rows;
+mod walks;
+
+use faults::gauge_test;
+use faults::header_fault;
+use faults::reach_test;
+use faults::row_test;
+use fields::segment_count;
+use fields::sheet_end;
+use ranges::SEGMENTS;
+use terms::Finding;
+use terms::Place;
+use walks::unmarked;
+use walks::walk;
+
+// What a test of this number finds, where its place is nothing.
+fn finding(number: u32, fault: bool) -> Finding
+    ensures { λ r. ⌜ findingSays r ≡ test number fault ⌝ }
+{
+    if fault {
+        return Finding::Fails(number, Place::Nothing);
+    }
+    Finding::Passes
+}
+
+// "Tests run in the order of their numbers", 2 and 3 on one walk: what the k-th of the eight finds, from 0. Behind them nothing is at fault.
+fn kth_test(sheet: &[u8], k: u32) -> Finding
+    ensures { λ r. ⌜ findingSays r ≡ getD (sheetTests (now (sheet .entry))) k passes ⌝ }
+{
+    match k {
+        0 => finding(1, unmarked(sheet)),
+        1 => walk(sheet),
+        2 => finding(4, sheet_end(sheet) < sheet.len()),
+        3 => finding(5, header_fault(sheet)),
+        4 => reach_test(sheet),
+        5 => finding(7, (SEGMENTS.high as usize) < segment_count(sheet)),
+        6 => row_test(sheet),
+        7 => gauge_test(sheet, segment_count(sheet)),
+        _ => Finding::Passes,
+    }
+}
+
+// Tests 1 to 9: the first that fails decides.
+pub fn judge(sheet: &[u8]) -> Finding
+    ensures { λ r. ⌜ findingSays r ≡ first (sheetTests (now (sheet .entry))) ⌝ }
+{
+    let mut k: u32 = 0;
+    while k < 8 {
+        if let Finding::Fails(number, place) = kth_test(sheet, k) {
+            return Finding::Fails(number, place);
+        }
+        k += 1;
+    }
+    Finding::Passes
+}

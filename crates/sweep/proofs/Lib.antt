@@ -1,0 +1,6 @@
+pub mod Bounds
+pub mod Tables
+pub mod River
+pub mod DownPass
+pub mod UpPass
+pub mod Passes

@@ -1,0 +1,33 @@
+-- `sweep::segment::new_storage` meets its contract: the new figure is a concentration.
+use native.Mathlib.Omega.{arith}
+use Rattle.model.specs.Sweep.{newFigures, newStorage}
+use Rattle.sweep.proofs.Bounds.{stores-bounds}
+use borrow.Author.Needs.{needs}
+use Rattle.sweep.proofs.segment.new_storage.Statement.{statement}
+use Rattle.sweep.proofs.segment.new_storage.Tie as tie
+
+storage-right-requires : tie.Need-storage-right-requires
+storage-right-requires c κs = omega (arith, stores-bounds (c .pre .0) (c .pre .1))
+
+mul-nearest : tie.Need-mul-nearest
+mul-nearest c = omega (arith, stores-bounds (c .before .pre .0) (c .before .pre .1))
+
+add-nearest : tie.Need-add-nearest
+add-nearest c = omega (arith, stores-bounds (c .before .pre .0) (c .before .pre .1), c .storage-right .ensures)
+
+cast-result : tie.Need-cast-result
+unfolding newFigures newStorage
+cast-result c =
+    rw (c .nearest .ensures, c .before .storage-right .ensures)
+    (omega (arith, stores-bounds (c .before .before .pre .0) (c .before .before .pre .1) .most .z))
+
+returns : tie.Need-returns
+unfolding newStorage
+returns c = rw (c .nearest .ensures, c .before .storage-right .ensures)
+
+pub new-storage-spec : {M : Type 1} → statement M
+new-storage-spec =
+    tie.close
+    (tie.spec
+    (λ c. search needs) (λ c. search needs) storage-right-requires mul-nearest add-nearest
+    (λ c. search needs) (λ c κs. search needs) cast-result returns)

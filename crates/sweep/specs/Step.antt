@@ -1,0 +1,88 @@
+-- One step over lent lists: what it asks of them, and what it leaves in them.
+use mathlib.Core.Path.{_≡_}
+use mathlib.Core.List.{List, map}
+use Prim.Native.Nat.{ℕ, _<_, _≤_}
+use lib.ListN.{length, getD}
+use Rattle.lists.specs.Lists.{tab, over}
+use Rattle.model.specs.Ranges.{highest, mostSegments}
+use Rattle.model.specs.Equations.{Figures}
+use Rattle.model.specs.Sweep.{Passed, under, downward, stepped}
+use Rattle.model.specs.TwoSets.{both}
+use Rattle.model.specs.State.{Columns, segmentAt, segmentsOf, State, figuresAt, figuresOf}
+use Rattle.model.specs.Calls.{Working}
+use Rattle.stability.specs.Accepted.{Accepted, AtMost}
+use Rattle.stability.proofs.Passes.{Stable}
+use Rattle.sweep.specs.Segment.{stores, passed, StoresReady}
+
+-- the lists lent
+abbrev pub columnsOf : (e g l a b k ks h m s cl cb kd start : List ℕ) → Columns
+columnsOf e g l a b k ks h m s cl cb kd start =
+    record { e = e; g = g; l = l; a = a; b = b; k = k; ks = ks; h = h; m = m; s = s; cl = cl; cb = cb; kd = kd; start = start }
+
+abbrev pub stateOf : (channel storage sediment : List ℕ) (upstream steps : ℕ) → State
+stateOf channel storage sediment upstream steps =
+    record { channel = channel; storage = storage; sediment = sediment; upstream = upstream; steps = steps }
+
+abbrev pub workingOf : (p y : List ℕ) → Working
+workingOf p y = record { p = p; y = y }
+
+-- the first n entries of the working lists
+abbrev pub passedOf : ℕ → Working → List Passed
+passedOf n x = tab 0 n (λ i. passed (getD (x .p) i 0) (getD (x .y) i 0))
+
+-- no list is shorter than the river; every segment, every figure, U and U' are such as a step accepts
+pub record Ready (n : ℕ) (columns : Columns) (state : State) (working : Working) (u′ : ℕ) : Type 0 where
+  pub few : n ≤ mostSegments
+  pub e-long : n ≤ length (columns .e)
+  pub g-long : n ≤ length (columns .g)
+  pub l-long : n ≤ length (columns .l)
+  pub a-long : n ≤ length (columns .a)
+  pub b-long : n ≤ length (columns .b)
+  pub k-long : n ≤ length (columns .k)
+  pub ks-long : n ≤ length (columns .ks)
+  pub h-long : n ≤ length (columns .h)
+  pub m-long : n ≤ length (columns .m)
+  pub s-long : n ≤ length (columns .s)
+  pub cl-long : n ≤ length (columns .cl)
+  pub cb-long : n ≤ length (columns .cb)
+  pub channel-long : n ≤ length (state .channel)
+  pub storage-long : n ≤ length (state .storage)
+  pub sediment-long : n ≤ length (state .sediment)
+  pub p-long : n ≤ length (working .p)
+  pub y-long : n ≤ length (working .y)
+  pub accepted : (i : ℕ) → i < n → Accepted (both (segmentAt columns i))
+  pub most : (i : ℕ) → i < n → AtMost highest (figuresAt state i)
+  pub most-u : state .upstream ≤ highest
+  pub most-u′ : u′ ≤ highest
+
+-- what the upward pass asks: of the segments only what the storage and sediment equations name, of p and y the downward pass's bounds
+pub record UpReady (n : ℕ) (b ks h m cb : List ℕ) (state : State) (working : Working) : Type 0 where
+  pub few : n ≤ mostSegments
+  pub b-long : n ≤ length b
+  pub ks-long : n ≤ length ks
+  pub h-long : n ≤ length h
+  pub m-long : n ≤ length m
+  pub cb-long : n ≤ length cb
+  pub channel-long : n ≤ length (state .channel)
+  pub storage-long : n ≤ length (state .storage)
+  pub sediment-long : n ≤ length (state .sediment)
+  pub p-long : n ≤ length (working .p)
+  pub y-long : n ≤ length (working .y)
+  pub accepted : (i : ℕ) → i < n → StoresReady (stores (getD b i 0) (getD ks i 0) (getD h i 0) (getD m i 0) (getD cb i 0)) (figuresAt state i)
+  pub stable : (i : ℕ) → i < n → Stable (under (passed (getD (working .p) i 0) (getD (working .y) i 0)))
+
+-- the lists of the state with these figures over their first entries
+pub record FiguresOver (figures : List Figures) (before : State) (channel storage sediment : List ℕ) : Type 0 where
+  pub of-channel : channel ≡ over (map (λ x. x .c) figures) (before .channel)
+  pub of-storage : storage ≡ over (map (λ x. x .z) figures) (before .storage)
+  pub of-sediment : sediment ≡ over (map (λ x. x .w) figures) (before .sediment)
+
+-- the working lists with these p and y over their first entries
+pub record PassedOver (passed : List Passed) (before : Working) (p y : List ℕ) : Type 0 where
+  pub of-p : p ≡ over (map (λ x. x .p) passed) (before .p)
+  pub of-y : y ≡ over (map (λ x. x .y) passed) (before .y)
+
+-- what a step leaves: the new figures in the state, p and y of the downward pass in the working lists
+pub record Stepped (n : ℕ) (columns : Columns) (state : State) (working : Working) (u′ : ℕ) (channel storage sediment p y : List ℕ) : Type 0 where
+  pub state-after : FiguresOver (stepped (state .upstream) u′ (segmentsOf n columns) (figuresOf n state)) state channel storage sediment
+  pub working-after : PassedOver (downward (state .upstream) u′ (segmentsOf n columns) (figuresOf n state)) working p y

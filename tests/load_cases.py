@@ -1,0 +1,117 @@
+"""The cases of program `loads`: sheets for the loader, and the answers and lists that the model gives for them.
+
+    python3 tests/load_cases.py            writes crates/loads/stdin and crates/loads/stdout
+    python3 tests/load_cases.py DIR OUT    the same for a folder of vectors (*.otr), as OUT.stdin and OUT.stdout
+
+A case has two fields in front of its sheet (see crates/loads/src/main.rt); the lists are lent full of sevens.
+"""
+from __future__ import annotations
+
+import sys
+from collections.abc import Iterable, Iterator
+from pathlib import Path
+from typing import NamedTuple
+
+import model
+import sheets
+from sheets import BROOK_REACH, Draft, brook, put, still_reaches, word, write
+
+ROOM = 1_100                        # the length of the program's lists
+SEVEN = 7
+MOST_INPUT = 65_536                 # what the program reads
+RECORDS = model.MOST_REACHES
+
+
+class Lent(NamedTuple):
+    """A sheet with the length of the list of reach records that is lent."""
+
+    sheet: bytes
+    records: int = RECORDS
+
+
+def two_reaches() -> Draft:
+    """A river of five segments with every process in it."""
+    reach = BROOK_REACH._replace(segments=3, D=400, A=900, AS=300, ALPHA=30_000, qin=40, qout=7, CL=800,
+                                 LAMBDA=2_000, LAMBDA2=3_000, LAMHAT=5_000, LAMHAT2=7_000, RHO=20_000, Kd=70,
+                                 CB=600, start=500)
+    return Draft(model.Header(dt=4, dx=100, M=9, interval=3, top_flow=60),
+                 [reach, reach._replace(segments=2, D=900, A=500)],
+                 [model.Row(0, 3_000), model.Row(4, 9_000)], [2, 5])
+
+
+def chosen() -> Iterator[Lent]:
+    """Each bench line, each refusal with its place, cuts inside each section."""
+    for case in sheets.bench_cases():
+        yield Lent(case.sheet)
+    full = two_reaches()
+    sheet = write(full)
+    yield Lent(sheet)
+    yield Lent(sheet, records=2)
+    yield Lent(sheet, records=1)                                # 13
+    yield Lent(write(still_reaches(1_000, 24)), records=1)
+    yield Lent(write(still_reaches(1_000, 25)), records=0)      # 7 before 13
+    yield Lent(b"")                                             # 1
+    yield Lent(b"OTR")
+    yield Lent(b"OTR2" + sheet[4:])
+    for cut in range(4, len(sheet), 9):                         # 2, in every section
+        yield Lent(sheet[:cut])
+    for case in sheets.counted_sheets(full):                    # 3
+        yield Lent(case.sheet)
+    yield Lent(sheet + b"\0")                                   # 4
+    yield Lent(put(sheet, 4, 0) + b"\0")
+    for at, figure in ((4, 3_601), (8, 9), (12, 100_001), (16, 10), (20, 100_000_001)):
+        yield Lent(put(sheet, at, figure))                      # 5
+    for reach in range(2):                                      # 6, the lowest reach
+        for field in range(16):
+            yield Lent(put(sheet, 28 + 64 * reach + 4 * field, 2_000_000_000))
+    yield Lent(put(put(sheet, 28, 0), 28 + 64, 0))
+    for case in sheets.disordered_sheets(full):                 # 8 and 9
+        yield Lent(case.sheet)
+    yield Lent(write(full.with_header(top_flow=0).with_reach(0, qin=0, qout=40_000)))       # 10
+    yield Lent(write(full.with_reach(1, qin=100_000_000)))
+    yield Lent(write(full.with_header(top_flow=100_000_000)))
+    yield Lent(write(full.with_reach(1, D=0)))                  # 11
+    yield Lent(write(full.with_reach(0, D=0).with_reach(1, ALPHA=1_000_000_000)))
+    for name in ("ALPHA", "LAMBDA", "LAMBDA2", "LAMHAT", "LAMHAT2"):                        # 12
+        yield Lent(write(full.with_reach(1, **{name: 1_000_000_000})))
+    yield Lent(write(brook(dt=1, Q=0, ALPHA=705_882_353, A=17, AS=6, D=0)))                 # b rounds to one whole
+
+
+def answer(lent: Lent) -> str:
+    """What the program prints for a case."""
+    lists = model.Lists(ROOM, SEVEN)
+    try:
+        found = model.load(lent.sheet, lists, [None] * lent.records)
+        line = "accepted " + " ".join(str(figure) for figure in found)
+    except model.Refusal as refusal:
+        place = "nothing" if refusal.place is None else " ".join(str(part) for part in refusal.place)
+        line = f"refused {refusal.number} {place}"
+    sums = "".join(f" {sum(column)}" for column in lists.column.values())
+    return f"{line}\n{sums}\n"
+
+
+def write_cases(cases: Iterable[Lent], given: Path, wanted: Path) -> int:
+    """The input and the output that belong together; the count of cases."""
+    taken = list(cases)
+    text = b"".join(word(len(lent.sheet)) + word(lent.records) + lent.sheet for lent in taken)
+    if len(text) > MOST_INPUT:
+        raise SystemExit(f"{len(text)} bytes are more than the program reads")
+    given.write_bytes(text)
+    wanted.write_text("".join(answer(lent) for lent in taken))
+    return len(taken)
+
+
+def main(arguments: list[str]) -> int:
+    if arguments:
+        folder, out = arguments
+        cases = (Lent(path.read_bytes()) for path in sorted(Path(folder).glob("*.otr")))
+        given, wanted = Path(out + ".stdin"), Path(out + ".stdout")
+    else:
+        crate = Path(__file__).resolve().parent.parent / "crates" / "loads"
+        cases, given, wanted = chosen(), crate / "stdin", crate / "stdout"
+    print(write_cases(cases, given, wanted), "cases")
+    return 0
+
+
+if __name__ == "__main__":
+    sys.exit(main(sys.argv[1:]))
