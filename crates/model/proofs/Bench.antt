@@ -1,4 +1,4 @@
--- T1 to T11 hold of the definitions: every line of the bench table gives the figures that document 01 prints.
+-- T1 to T11 and the listing hold of the definitions: every line of the bench table gives the figures that document 01 prints.
 use mathlib.Core.Path.{refl}
 use Rattle.lists.specs.Lists.{lowestFrom, lowest, anyShorter, notRising}
 use Rattle.rounding.specs.Nearest.{nearest}
@@ -10,9 +10,14 @@ use Rattle.model.specs.HalfStep.{ad, isLast, adAbove, adBelow, eOf, gOf,
 use Rattle.model.specs.Sweep.{P, N, F, R, rowOf, newStorage, newSediment, newFigures, downward, stepped}
 use Rattle.model.specs.State.{segmentAt, writeSegments, figuresAt, writeFigures}
 use Rattle.model.specs.Load.{unmarked, walk, startsLate, rowFault, gaugeFault, flowFault, faceFault, sumFault, sheetTests, courseTests, listTests, loadTests, loaded, loadAnswer, loadColumns}
-use Rattle.model.specs.Calls.{riverFault, segmentFault, figureFault, startFault, stateFault, heldFault, startTests, startAnswer, startState, stepTests, stepAnswer, stepState, stepWorking}
-use Rattle.model.specs.Bench.{bytes, allBytes, brook, zeros, noState, noWork, judged, slope, brook2, started2, bench, Agree}
+use Rattle.model.specs.Calls.{riverFault, segmentFault, figureFault, startFault, stateFault, heldFault, startTests, startAnswer, startState, stepTests, stepAnswer, stepState, stepWorking, reportTests, reported, reportAnswer}
+use Rattle.model.specs.Bench.{bytes, allBytes, brook, zeros, noState, noWork, judged, slope, brook2, started2, bench, listed, listedColumns, listedState, listing, Agree}
 
 pub bench-holds : Agree bench
 unfolding lowestFrom lowest anyShorter notRising nearest floorDiv outside anyOutside startsWith field headerField sectionEnd rowCountAt gaugeCountAt sheetEnd recordField reachFields reachOf reachOn reaches rowStarts rowConcentrations gauges totalSegments segmentCount alongRiver courseOf reachAt gain flow discharge ad isLast adAbove adBelow eOf gOf rateOf numbers loadedSegment P N F R rowOf newStorage newSediment newFigures downward stepped segmentAt writeSegments figuresAt writeFigures unmarked walk startsLate rowFault gaugeFault flowFault faceFault sumFault sheetTests courseTests listTests loadTests loaded loadAnswer loadColumns riverFault segmentFault figureFault startFault stateFault heldFault startTests startAnswer startState stepTests stepAnswer stepState stepWorking bytes allBytes brook zeros noState noWork judged slope brook2 started2 bench
 bench-holds = (refl, (refl, (refl, (refl, (refl, (refl, (refl, (refl, (refl, (refl, (refl, tt)))))))))))
+
+-- The listing's figures hold of the definitions, from the sheet's bytes to the reports of its two steps.
+pub listing-holds : Agree listing
+unfolding lowestFrom lowest anyShorter notRising nearest floorDiv outside anyOutside startsWith field headerField sectionEnd rowCountAt gaugeCountAt sheetEnd recordField reachFields reachOf reachOn reaches rowStarts rowConcentrations gauges totalSegments segmentCount alongRiver courseOf reachAt gain flow discharge ad isLast adAbove adBelow eOf gOf rateOf numbers loadedSegment P N F R rowOf newStorage newSediment newFigures downward stepped segmentAt writeSegments figuresAt writeFigures unmarked walk startsLate rowFault gaugeFault flowFault faceFault sumFault sheetTests courseTests listTests loadTests loaded loadAnswer loadColumns riverFault segmentFault figureFault startFault stateFault heldFault startTests startAnswer startState stepTests stepAnswer stepState reportTests reported reportAnswer bytes allBytes zeros noState noWork listed listedColumns listedState listing
+listing-holds = (refl, (refl, tt))

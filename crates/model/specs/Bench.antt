@@ -2,7 +2,7 @@
 -- document 01 prints; proofs/Bench shows of the whole table at once that they are the same.
 use mathlib.Core.Path.{_≡_}
 use mathlib.Core.List.{List, [], _∷_, _++_}
-use Prim.Native.Nat.{ℕ, _+_, _-_, _*_, _/_, _%_, _^_}
+use Prim.Native.Nat.{ℕ, zero, suc, _+_, _-_, _*_, _/_, _%_, _^_}
 use lib.ListN.{getD, replicate}
 use Rattle.rounding.specs.Nearest.{S, parts}
 use Rattle.model.specs.Sheet.{mark, reachOf}
@@ -11,7 +11,7 @@ use Rattle.model.specs.HalfStep.{eOf}
 use Rattle.model.specs.State.{Columns, State}
 use Rattle.model.specs.Refusals.{Outcome, accepted, refused}
 use Rattle.model.specs.Load.{loadAnswer, loadColumns}
-use Rattle.model.specs.Calls.{Working, startState, stepState, stepWorking}
+use Rattle.model.specs.Calls.{Working, startState, stepState, stepWorking, Reported, reportAnswer}
 
 -- a field's four bytes, and a sheet of such fields
 unfoldable pub bytes : ℕ → List ℕ
@@ -85,6 +85,36 @@ bench =
     -- "after one step C is 1,035 and 207"; "there p of segment 1 is 178,956,971"
     record { number = 10; given = stepState 2 brook2 started2 (noWork 2) 3000 1 .channel; printed = 1035 ∷ 207 ∷ [] } ∷
     record { number = 11; given = getD (stepWorking 2 brook2 started2 (noWork 2) 3000 1 .p) 0 0 ∷ []; printed = 178956971 ∷ [] } ∷
+    []
+
+-- The listing's river: "Brook, one segment, dt 2, M 2, interval 1, Q 0, AS 100, LAMHAT and LAMHAT2 each 500,000,000, Kd 2, CB 600, one
+-- row (0, 3,000), gauge 1"
+unfoldable pub listed : List ℕ
+listed =
+    mark ++ allBytes
+    (2 ∷ 10 ∷ 2 ∷ 1 ∷ 0 ∷
+    1 ∷ 1 ∷ 50 ∷ 100 ∷ 100 ∷ replicate 6 0 ++ 500000000 ∷ 500000000 ∷ 0 ∷ 2 ∷ 600 ∷ 0 ∷
+    1 ∷ 0 ∷ 3000 ∷
+    1 ∷ 1 ∷ [])
+
+unfoldable pub listedColumns : Columns
+listedColumns = loadColumns listed 1 (zeros 1)
+
+-- loaded, started, and stepped with the row's figure
+unfoldable pub listedState : (steps : ℕ) → State
+listedState zero = startState 1 listedColumns (noState 1) 3000
+listedState (suc n) = stepState 1 listedColumns (listedState n) (noWork 1) 3000 2
+
+-- what a line prints of a report
+abbrev pub figures : Outcome Reported → List ℕ
+figures (accepted v) = v .channel ∷ v .storage ∷ v .sediment ∷ []
+figures (refused number place) = number ∷ []
+
+-- the listing's lines, by step
+unfoldable pub listing : List Line
+listing =
+    record { number = 1; given = figures (reportAnswer 1 listedColumns (listedState 1) 1); printed = 2000 ∷ 400 ∷ 1334 ∷ [] } ∷
+    record { number = 2; given = figures (reportAnswer 1 listedColumns (listedState 2) 1); printed = 2667 ∷ 533 ∷ 3556 ∷ [] } ∷
     []
 
 -- every line of a table gives the figures that are printed

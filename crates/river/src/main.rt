@@ -1,0 +1,621 @@
+// Program river: reads a river sheet on standard input and prints its listing, or `refused` and the number of the refusal.
+ghost use Prim.Native.Nat.{_≤_};
+ghost use lib.ListN.{length};
+use libc::STDIN_FILENO;
+use loader::Load;
+use loader::Loaded;
+use otis::Figures;
+use otis::Report;
+use otis::River;
+use otis::Start;
+use otis::Step;
+use otis::Upstream;
+use otis::rows::upstream;
+use output::flush;
+use output::put_number;
+use output::put_text;
+use output::room;
+use sheet::fields::gauge;
+use sheet::rows::copy_rows;
+
+mod output;
+
+// The longest sheet has 6,308 bytes; one byte more shows that bytes follow its last gauge.
+const LONGEST: usize = 6309;
+
+// Reach records are not kept: a loading is judged as if lent room for the most reaches that a sheet can have.
+const RECORDS: usize = 64;
+
+// A refused sheet prints only `refused` and its number.
+fn refused(number: u32) {
+    let mut out = [0u8; 32];
+    let used = put_text(&mut out, 0, b"refused ");
+    let used = put_number(&mut out, used, number as u64, b'\n');
+    flush(&out, used);
+}
+
+// Where a listing stands: the river, and the bytes used of the buffer.
+struct Listed {
+    river: River,
+    used: usize,
+}
+
+// One line: step, gauge's segment, C, Z, Kd × W.
+fn put_line(out: &mut [u8], used: usize, step: u32, segment: u32, figures: Figures) -> usize {
+    let at = room(&out[..], used);
+    let at = put_number(&mut out[..], at, step as u64, b' ');
+    let at = put_number(&mut out[..], at, segment as u64, b' ');
+    let at = put_number(&mut out[..], at, figures.channel as u64, b' ');
+    let at = put_number(&mut out[..], at, figures.storage as u64, b' ');
+    put_number(&mut out[..], at, figures.sediment, b'\n')
+}
+
+// The line of one gauge.
+fn put_gauge(
+    river: River,
+    segments: u32,
+    segment: u32,
+    e: &[u32],
+    g: &[u32],
+    l: &[u32],
+    a: &[u32],
+    b: &[u32],
+    k: &[u32],
+    ks: &[u32],
+    h: &[u32],
+    m: &[u32],
+    s: &[u32],
+    cl: &[u32],
+    cb: &[u32],
+    kd: &[u32],
+    start: &[u32],
+    channel: &[u32],
+    storage: &[u32],
+    sediment: &[u32],
+    out: &mut [u8],
+    used: usize,
+) -> usize {
+    let report = river.report(
+        segments,
+        e,
+        g,
+        l,
+        a,
+        b,
+        k,
+        ks,
+        h,
+        m,
+        s,
+        cl,
+        cb,
+        kd,
+        start,
+        channel,
+        storage,
+        sediment,
+        segment,
+    );
+    match report {
+        Report::Reported(figures) => put_line(&mut out[..], used, river.steps, segment, figures),
+        Report::Refused(_, _) => used,
+    }
+}
+
+// The lines of one step, gauges in the sheet's order.
+fn put_step(
+    river: River,
+    sheet: &[u8],
+    gauges: usize,
+    segments: u32,
+    e: &[u32],
+    g: &[u32],
+    l: &[u32],
+    a: &[u32],
+    b: &[u32],
+    k: &[u32],
+    ks: &[u32],
+    h: &[u32],
+    m: &[u32],
+    s: &[u32],
+    cl: &[u32],
+    cb: &[u32],
+    kd: &[u32],
+    start: &[u32],
+    channel: &[u32],
+    storage: &[u32],
+    sediment: &[u32],
+    out: &mut [u8],
+    used: usize,
+) -> usize {
+    let mut at = used;
+    let mut left = gauges;
+    while left > 0 {
+        at = put_gauge(
+            river,
+            segments,
+            gauge(sheet, gauges - left),
+            e,
+            g,
+            l,
+            a,
+            b,
+            k,
+            ks,
+            h,
+            m,
+            s,
+            cl,
+            cb,
+            kd,
+            start,
+            channel,
+            storage,
+            sediment,
+            &mut out[..],
+            at,
+        );
+        left -= 1;
+    }
+    at
+}
+
+// The lines of a step that is a multiple of the interval; of any other step nothing.
+fn put_due(
+    due: bool,
+    river: River,
+    sheet: &[u8],
+    gauges: usize,
+    segments: u32,
+    e: &[u32],
+    g: &[u32],
+    l: &[u32],
+    a: &[u32],
+    b: &[u32],
+    k: &[u32],
+    ks: &[u32],
+    h: &[u32],
+    m: &[u32],
+    s: &[u32],
+    cl: &[u32],
+    cb: &[u32],
+    kd: &[u32],
+    start: &[u32],
+    channel: &[u32],
+    storage: &[u32],
+    sediment: &[u32],
+    out: &mut [u8],
+    used: usize,
+) -> usize {
+    if due {
+        return put_step(
+            river,
+            sheet,
+            gauges,
+            segments,
+            e,
+            g,
+            l,
+            a,
+            b,
+            k,
+            ks,
+            h,
+            m,
+            s,
+            cl,
+            cb,
+            kd,
+            start,
+            channel,
+            storage,
+            sediment,
+            &mut out[..],
+            used,
+        );
+    }
+    used
+}
+
+fn is_due(step: u32, interval: u32) -> bool {
+    if interval == 0 {
+        return false;
+    }
+    step % interval == 0
+}
+
+// U at step j, from the first rows of the two lists; 0 where there is none, which no accepted sheet has.
+fn upstream_at(starts: &[u32], concentrations: &[u32], rows: usize, steps: u32, j: u32) -> u32 {
+    if starts.len() < rows {
+        return 0;
+    }
+    if concentrations.len() < rows {
+        return 0;
+    }
+    let found = upstream(&starts[..rows], &concentrations[..rows], steps, j);
+    match found {
+        Upstream::Figure(u) => u,
+        Upstream::Refused(_, _) => 0,
+    }
+}
+
+// One step; a refusal, which no accepted sheet meets, leaves the river where it is.
+fn advance(
+    river: River,
+    segments: u32,
+    steps: u32,
+    u: u32,
+    e: &[u32],
+    g: &[u32],
+    l: &[u32],
+    a: &[u32],
+    b: &[u32],
+    k: &[u32],
+    ks: &[u32],
+    h: &[u32],
+    m: &[u32],
+    s: &[u32],
+    cl: &[u32],
+    cb: &[u32],
+    kd: &[u32],
+    start: &[u32],
+    channel: &mut [u32],
+    storage: &mut [u32],
+    sediment: &mut [u32],
+    p: &mut [u64],
+    y: &mut [u64],
+) -> River {
+    let stepped = river.step(
+        segments,
+        e,
+        g,
+        l,
+        a,
+        b,
+        k,
+        ks,
+        h,
+        m,
+        s,
+        cl,
+        cb,
+        kd,
+        start,
+        &mut channel[..],
+        &mut storage[..],
+        &mut sediment[..],
+        &mut p[..],
+        &mut y[..],
+        u,
+        steps,
+    );
+    match stepped {
+        Step::Stepped(next) => next,
+        Step::Refused(_, _) => river,
+    }
+}
+
+// One step, `done` with it, and its lines if it is due.
+fn turn(
+    at: Listed,
+    done: u32,
+    sheet: &[u8],
+    loaded: Loaded,
+    starts: &[u32],
+    concentrations: &[u32],
+    e: &[u32],
+    g: &[u32],
+    l: &[u32],
+    a: &[u32],
+    b: &[u32],
+    k: &[u32],
+    ks: &[u32],
+    h: &[u32],
+    m: &[u32],
+    s: &[u32],
+    cl: &[u32],
+    cb: &[u32],
+    kd: &[u32],
+    start: &[u32],
+    channel: &mut [u32],
+    storage: &mut [u32],
+    sediment: &mut [u32],
+    p: &mut [u64],
+    y: &mut [u64],
+    out: &mut [u8],
+) -> Listed {
+    let u = upstream_at(
+        starts,
+        concentrations,
+        loaded.rows as usize,
+        loaded.steps,
+        done,
+    );
+    let river = advance(
+        at.river,
+        loaded.segments,
+        loaded.steps,
+        u,
+        e,
+        g,
+        l,
+        a,
+        b,
+        k,
+        ks,
+        h,
+        m,
+        s,
+        cl,
+        cb,
+        kd,
+        start,
+        &mut channel[..],
+        &mut storage[..],
+        &mut sediment[..],
+        &mut p[..],
+        &mut y[..],
+    );
+    let used = put_due(
+        is_due(done, loaded.interval),
+        river,
+        sheet,
+        loaded.gauges as usize,
+        loaded.segments,
+        e,
+        g,
+        l,
+        a,
+        b,
+        k,
+        ks,
+        h,
+        m,
+        s,
+        cl,
+        cb,
+        kd,
+        start,
+        &channel[..],
+        &storage[..],
+        &sediment[..],
+        &mut out[..],
+        at.used,
+    );
+    Listed {
+        river: river,
+        used: used,
+    }
+}
+
+// The steps of the sheet's own river from its start, with lines at the multiples of the interval.
+fn run(
+    begun: Listed,
+    sheet: &[u8],
+    loaded: Loaded,
+    starts: &[u32],
+    concentrations: &[u32],
+    e: &[u32],
+    g: &[u32],
+    l: &[u32],
+    a: &[u32],
+    b: &[u32],
+    k: &[u32],
+    ks: &[u32],
+    h: &[u32],
+    m: &[u32],
+    s: &[u32],
+    cl: &[u32],
+    cb: &[u32],
+    kd: &[u32],
+    start: &[u32],
+    channel: &mut [u32],
+    storage: &mut [u32],
+    sediment: &mut [u32],
+    p: &mut [u64],
+    y: &mut [u64],
+    out: &mut [u8],
+) -> Listed {
+    let steps = loaded.steps;
+    let mut at = begun;
+    let mut left = steps;
+    while left > 0 {
+        left -= 1;
+        at = turn(
+            at,
+            steps - left,
+            sheet,
+            loaded,
+            starts,
+            concentrations,
+            e,
+            g,
+            l,
+            a,
+            b,
+            k,
+            ks,
+            h,
+            m,
+            s,
+            cl,
+            cb,
+            kd,
+            start,
+            &mut channel[..],
+            &mut storage[..],
+            &mut sediment[..],
+            &mut p[..],
+            &mut y[..],
+            &mut out[..],
+        );
+    }
+    at
+}
+
+// The last line, and what is left in the buffer.
+fn finish(out: &mut [u8], end: Listed) {
+    let used = room(&out[..], end.used);
+    let used = put_text(&mut out[..], used, b"done ");
+    let used = put_number(&mut out[..], used, end.river.steps as u64, b'\n');
+    flush(&out[..], used);
+}
+
+// The listing of an accepted sheet.
+fn listing(
+    sheet: &[u8],
+    loaded: Loaded,
+    e: &[u32],
+    g: &[u32],
+    l: &[u32],
+    a: &[u32],
+    b: &[u32],
+    k: &[u32],
+    ks: &[u32],
+    h: &[u32],
+    m: &[u32],
+    s: &[u32],
+    cl: &[u32],
+    cb: &[u32],
+    kd: &[u32],
+    start: &[u32],
+) {
+    let mut starts = [0u32; 256];
+    let mut concentrations = [0u32; 256];
+    copy_rows(sheet, &mut starts, &mut concentrations);
+    let mut channel = [0u32; 1024];
+    let mut storage = [0u32; 1024];
+    let mut sediment = [0u32; 1024];
+    let mut p = [0u64; 1024];
+    let mut y = [0u64; 1024];
+    let mut out = io::large_buffer();
+    let u = upstream_at(
+        &starts,
+        &concentrations,
+        loaded.rows as usize,
+        loaded.steps,
+        0,
+    );
+    let started = River::start(
+        loaded.segments,
+        e,
+        g,
+        l,
+        a,
+        b,
+        k,
+        ks,
+        h,
+        m,
+        s,
+        cl,
+        cb,
+        kd,
+        start,
+        &mut channel,
+        &mut storage,
+        &mut sediment,
+        u,
+    );
+    match started {
+        Start::Refused(number, _) => refused(number),
+        Start::Started(river) => {
+            let used = put_text(&mut out, 0, b"step segment channel storage sediment\n");
+            let begun = Listed {
+                river: river,
+                used: used,
+            };
+            let end = run(
+                begun,
+                sheet,
+                loaded,
+                &starts,
+                &concentrations,
+                e,
+                g,
+                l,
+                a,
+                b,
+                k,
+                ks,
+                h,
+                m,
+                s,
+                cl,
+                cb,
+                kd,
+                start,
+                &mut channel,
+                &mut storage,
+                &mut sediment,
+                &mut p,
+                &mut y,
+                &mut out,
+            );
+            finish(&mut out, end);
+        }
+    }
+}
+
+// What river prints of these bytes.
+fn print(sheet: &[u8]) {
+    let mut e = [0u32; 1024];
+    let mut g = [0u32; 1024];
+    let mut l = [0u32; 1024];
+    let mut a = [0u32; 1024];
+    let mut b = [0u32; 1024];
+    let mut k = [0u32; 1024];
+    let mut ks = [0u32; 1024];
+    let mut h = [0u32; 1024];
+    let mut m = [0u32; 1024];
+    let mut s = [0u32; 1024];
+    let mut cl = [0u32; 1024];
+    let mut cb = [0u32; 1024];
+    let mut kd = [0u32; 1024];
+    let mut start = [0u32; 1024];
+    let answer = Loaded::load(
+        sheet,
+        RECORDS,
+        &mut e,
+        &mut g,
+        &mut l,
+        &mut a,
+        &mut b,
+        &mut k,
+        &mut ks,
+        &mut h,
+        &mut m,
+        &mut s,
+        &mut cl,
+        &mut cb,
+        &mut kd,
+        &mut start,
+    );
+    match answer {
+        Load::Refused(number, _) => refused(number),
+        Load::Loaded(loaded) => listing(
+            sheet,
+            loaded,
+            &e,
+            &g,
+            &l,
+            &a,
+            &b,
+            &k,
+            &ks,
+            &h,
+            &m,
+            &s,
+            &cl,
+            &cb,
+            &kd,
+            &start,
+        ),
+    }
+}
+
+fn main() {
+    let mut bytes = [0u8; LONGEST];
+    let got = io::read_full(STDIN_FILENO, &mut bytes);
+    print(&bytes[..got]);
+}
