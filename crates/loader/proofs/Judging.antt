@@ -17,7 +17,7 @@ use Rattle.model.specs.Refusals.{Place, nothing, segment, Finding, passes, fail
 use Rattle.model.specs.Load.{loaded, sheetTests, courseTests, listTests, loadTests, loadAnswer, loadColumns}
 use Rattle.model.proofs.Refusals.{first-rest, first-front, first-both, all-pass, each-clear, test-clear, judge-passes, judge-fails}
 use Rattle.terms.specs.Lent.{Long}
-use Rattle.loader.specs.Segments.{courseFault, Clear, Read}
+use Rattle.course.specs.Segments.{courseFault, Clear, Read}
 
 -- test k of tests 10 to 12
 abbrev pub courseTest : ℕ → ℕ → Course → Finding

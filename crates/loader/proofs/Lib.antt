@@ -1,4 +1,1 @@
-pub mod River
-pub mod Lengths
-pub mod Writing
 pub mod Judging

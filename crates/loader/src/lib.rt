@@ -4,11 +4,11 @@ ghost use Rattle.model.specs.Refusals.{first};
 ghost use Rattle.model.specs.Load.{loaded, loadTests, loadAnswer, loadColumns};
 ghost use Rattle.terms.specs.Says.{findingSays};
 ghost use Rattle.terms.specs.Lent.{columns};
-ghost use Rattle.loader.specs.Segments.{Read};
+ghost use Rattle.course.specs.Segments.{Read};
 ghost use Rattle.loader.specs.Says.{loadedSays, loadSays};
-use crate::columns::any_short;
-use crate::columns::fill;
-use crate::segments::course_test;
+use columns::any_short;
+use columns::fill;
+use course::course_test;
 use sheet::fields::gauge_count;
 use sheet::fields::gauges_at;
 use sheet::fields::interval;
@@ -20,8 +20,6 @@ use sheet::fields::steps;
 use terms::Finding;
 use terms::Place;
 
-mod columns;
-mod segments;
 
 // "Its result also gives M, the print interval, the segment count, and where the rows and the gauges begin on the sheet and how many
 // there are."

@@ -10,7 +10,7 @@ use Rattle.model.specs.Load.{sheetTests, loadTests}
 use Rattle.model.specs.Refusals.{passes, first}
 use Rattle.terms.specs.Says.{findingSays}
 use Rattle.terms.specs.Lent.{columns}
-use Rattle.loader.specs.Segments.{Clear, Read}
+use Rattle.course.specs.Segments.{Clear, Read}
 use Rattle.loader.proofs.Judging.{Judging, judging-on, judging-stop, later, clear-start, clear-next, sheet-passes, sheet-fails, test-short, test-few, test-enough}
 use Rattle.loader.proofs.judge.Statement.{statement}
 use Rattle.loader.proofs.judge.Tie as tie

@@ -2,7 +2,7 @@
 use native.Mathlib.Omega.{arith}
 use borrow.Author.Needs.{needs}
 use Rattle.model.specs.Load.{loaded}
-use Rattle.loader.proofs.River.{few, rows-fit, gauges-fit}
+use Rattle.course.proofs.River.{few, rows-fit, gauges-fit}
 use Rattle.loader.proofs.Loaded.read.Statement.{statement}
 use Rattle.loader.proofs.Loaded.read.Tie as tie
 

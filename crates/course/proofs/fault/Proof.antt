@@ -2,9 +2,9 @@
 use mathlib.Core.Path.{_∙_}
 use native.Mathlib.Omega.{arith}
 use borrow.Author.Needs.{needs}
-use Rattle.loader.proofs.River.{flow-site, passes-site, site-flow, site-face, site-sum}
-use Rattle.loader.proofs.segments.fault.Statement.{statement}
-use Rattle.loader.proofs.segments.fault.Tie as tie
+use Rattle.course.proofs.River.{flow-site, passes-site, site-flow, site-face, site-sum}
+use Rattle.course.proofs.fault.Statement.{statement}
+use Rattle.course.proofs.fault.Tie as tie
 
 returns : tie.Need-returns
 returns c = c .flow-fault .ensures ∙ site-flow _ _ (c .before .if1 .taken)

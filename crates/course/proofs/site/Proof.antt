@@ -3,9 +3,9 @@ use borrow.Author.Needs.{needs}
 use Rattle.model.specs.Sheet.{dx}
 use Rattle.terms.specs.Says.{reachSays}
 use Rattle.halfstep.specs.Walk.{Walks}
-use Rattle.loader.proofs.River.{stood, walks-read, site-read}
-use Rattle.loader.proofs.segments.site.Statement.{statement}
-use Rattle.loader.proofs.segments.site.Tie as tie
+use Rattle.course.proofs.River.{stood, walks-read, site-read}
+use Rattle.course.proofs.site.Statement.{statement}
+use Rattle.course.proofs.site.Tie as tie
 
 -- what the walk has at this segment
 walks : (c : tie.After-reach) → Walks (dx (c .before .before .before .args .sheet .now)) (reachSays (c .reach .result)) (c .before .before .before .args .at)

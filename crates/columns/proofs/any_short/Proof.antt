@@ -1,8 +1,8 @@
 -- `any_short` meets its contract. Assumes nothing.
 use borrow.Author.Needs.{needs}
-use Rattle.loader.proofs.Lengths.{no-list, or-shorter}
-use Rattle.loader.proofs.columns.any_short.Statement.{statement}
-use Rattle.loader.proofs.columns.any_short.Tie as tie
+use Rattle.columns.proofs.Lengths.{no-list, or-shorter}
+use Rattle.columns.proofs.any_short.Statement.{statement}
+use Rattle.columns.proofs.any_short.Tie as tie
 
 returns : tie.Need-returns
 returns c =

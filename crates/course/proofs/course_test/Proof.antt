@@ -9,10 +9,10 @@ use Rattle.model.specs.Flow.{courseOf}
 use Rattle.model.specs.Refusals.{segment}
 use Rattle.halfstep.proofs.Segments.{Walked}
 use Rattle.sheet.proofs.Tests.{each-found, each-clear}
-use Rattle.loader.specs.Segments.{courseFault}
-use Rattle.loader.proofs.River.{few, clear-site, site-fault, walked-start, stands, walks-here, walked-here}
-use Rattle.loader.proofs.segments.course_test.Statement.{statement}
-use Rattle.loader.proofs.segments.course_test.Tie as tie
+use Rattle.course.specs.Segments.{courseFault}
+use Rattle.course.proofs.River.{few, clear-site, site-fault, walked-start, stands, walks-here, walked-here}
+use Rattle.course.proofs.course_test.Statement.{statement}
+use Rattle.course.proofs.course_test.Tie as tie
 
 abbrev Inv-loop : tie.InvT-loop
 Inv-loop sheet n number step at₀ i₀ at i =

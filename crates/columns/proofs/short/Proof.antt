@@ -1,7 +1,7 @@
 -- `short` meets its contract. Assumes nothing.
 use borrow.Author.Tests.{lt-ltb, le-ltb}
-use Rattle.loader.proofs.columns.short.Statement.{statement}
-use Rattle.loader.proofs.columns.short.Tie as tie
+use Rattle.columns.proofs.short.Statement.{statement}
+use Rattle.columns.proofs.short.Tie as tie
 
 returns : tie.Need-returns
 returns c = rw (lt-ltb _ _ (c .if1 .taken))

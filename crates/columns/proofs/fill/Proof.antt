@@ -6,10 +6,10 @@ use Rattle.model.specs.Sheet.{reaches}
 use Rattle.model.specs.Flow.{courseOf}
 use Rattle.terms.specs.Lent.{columns}
 use Rattle.halfstep.proofs.Segments.{Walked}
-use Rattle.loader.proofs.River.{few, clear-site, passes-site, numbers-are, walked-start, stands, walks-here, walked-here}
-use Rattle.loader.proofs.Writing.{Writing, writing-start, writing-turn, writing-end, segment-is}
-use Rattle.loader.proofs.columns.fill.Statement.{statement}
-use Rattle.loader.proofs.columns.fill.Tie as tie
+use Rattle.course.proofs.River.{few, clear-site, passes-site, numbers-are, walked-start, stands, walks-here, walked-here}
+use Rattle.columns.proofs.Writing.{Writing, writing-start, writing-turn, writing-end, segment-is}
+use Rattle.columns.proofs.fill.Statement.{statement}
+use Rattle.columns.proofs.fill.Tie as tie
 
 abbrev Inv-loop : tie.InvT-loop
 Inv-loop sheet n e₀ g₀ l₀ a₀ b₀ k₀ ks₀ h₀ m₀ s₀ cl₀ cb₀ kd₀ start₀ step at₀ i₀ e g l a b k ks h m s cl cb kd start at i =

@@ -6,7 +6,7 @@ ghost use Rattle.model.specs.Flow.{courseOf};
 ghost use Rattle.model.specs.Refusals.{segment, testEach};
 ghost use Rattle.terms.specs.Says.{findingSays};
 ghost use Rattle.halfstep.specs.Walk.{cursorAt};
-ghost use Rattle.loader.specs.Segments.{courseFault, siteFault, Clear, ClearSite, Read, IsSegment};
+ghost use Rattle.course.specs.Segments.{courseFault, siteFault, Clear, ClearSite, Read, IsSegment};
 use halfstep::Site;
 use halfstep::walk::Cursor;
 use sheet::fields::dt;

@@ -23,7 +23,7 @@ use Rattle.halfstep.proofs.Walking.{Along}
 use Rattle.halfstep.proofs.Sites.{flow-fault-at, face-fault-at, numbers-at}
 use Rattle.halfstep.proofs.Segments.{Sited, Walked, walked-top, known-at, walks-at, walked-next, below-at, sited}
 use Rattle.sheet.proofs.Passed.{ReachWithin, passed}
-use Rattle.loader.specs.Segments.{courseFault, siteFault, Clear, ClearSite, Read, IsSegment}
+use Rattle.course.specs.Segments.{courseFault, siteFault, Clear, ClearSite, Read, IsSegment}
 
 -- test 6 leaves the fields in their ranges
 in-range : {r : Reach} → ReachWithin r → InRange r
