@@ -20,7 +20,6 @@ use sheet::fields::steps;
 use terms::Finding;
 use terms::Place;
 
-
 // "Its result also gives M, the print interval, the segment count, and where the rows and the gauges begin on the sheet and how many
 // there are."
 pub struct Loaded {

@@ -50,54 +50,10 @@ fn put_line(out: &mut [u8], used: usize, step: u32, segment: u32, figures: Figur
     put_number(&mut out[..], at, figures.sediment, b'\n')
 }
 
-// The line of one gauge.
-fn put_gauge(
-    river: River,
-    segments: u32,
-    segment: u32,
-    e: &[u32],
-    g: &[u32],
-    l: &[u32],
-    a: &[u32],
-    b: &[u32],
-    k: &[u32],
-    ks: &[u32],
-    h: &[u32],
-    m: &[u32],
-    s: &[u32],
-    cl: &[u32],
-    cb: &[u32],
-    kd: &[u32],
-    start: &[u32],
-    channel: &[u32],
-    storage: &[u32],
-    sediment: &[u32],
-    out: &mut [u8],
-    used: usize,
-) -> usize {
-    let report = river.report(
-        segments,
-        e,
-        g,
-        l,
-        a,
-        b,
-        k,
-        ks,
-        h,
-        m,
-        s,
-        cl,
-        cb,
-        kd,
-        start,
-        channel,
-        storage,
-        sediment,
-        segment,
-    );
+// The line of a gauge's report; a refusal, which no gauge of an accepted sheet meets, has none.
+fn put_report(out: &mut [u8], used: usize, step: u32, segment: u32, report: Report) -> usize {
     match report {
-        Report::Reported(figures) => put_line(&mut out[..], used, river.steps, segment, figures),
+        Report::Reported(figures) => put_line(&mut out[..], used, step, segment, figures),
         Report::Refused(_, _) => used,
     }
 }
@@ -131,10 +87,9 @@ fn put_step(
     let mut at = used;
     let mut left = gauges;
     while left > 0 {
-        at = put_gauge(
-            river,
+        let segment = gauge(sheet, gauges - left);
+        let report = river.report(
             segments,
-            gauge(sheet, gauges - left),
             e,
             g,
             l,
@@ -152,76 +107,24 @@ fn put_step(
             channel,
             storage,
             sediment,
-            &mut out[..],
-            at,
+            segment,
         );
+        at = put_report(&mut out[..], at, river.steps, segment, report);
         left -= 1;
     }
     at
 }
 
-// The lines of a step that is a multiple of the interval; of any other step nothing.
-fn put_due(
-    due: bool,
-    river: River,
-    sheet: &[u8],
-    gauges: usize,
-    segments: u32,
-    e: &[u32],
-    g: &[u32],
-    l: &[u32],
-    a: &[u32],
-    b: &[u32],
-    k: &[u32],
-    ks: &[u32],
-    h: &[u32],
-    m: &[u32],
-    s: &[u32],
-    cl: &[u32],
-    cb: &[u32],
-    kd: &[u32],
-    start: &[u32],
-    channel: &[u32],
-    storage: &[u32],
-    sediment: &[u32],
-    out: &mut [u8],
-    used: usize,
-) -> usize {
-    if due {
-        return put_step(
-            river,
-            sheet,
-            gauges,
-            segments,
-            e,
-            g,
-            l,
-            a,
-            b,
-            k,
-            ks,
-            h,
-            m,
-            s,
-            cl,
-            cb,
-            kd,
-            start,
-            channel,
-            storage,
-            sediment,
-            &mut out[..],
-            used,
-        );
-    }
-    used
-}
-
-fn is_due(step: u32, interval: u32) -> bool {
+// The gauges that print at a step: all of them at a multiple of the interval, else none.
+fn printing(step: u32, interval: u32, gauges: u32) -> usize {
     if interval == 0 {
-        return false;
+        return 0;
     }
-    step % interval == 0
+    if step % interval == 0 {
+        gauges as usize
+    } else {
+        0
+    }
 }
 
 // U at step j, from the first rows of the two lists; 0 where there is none, which no accepted sheet has.
@@ -239,59 +142,11 @@ fn upstream_at(starts: &[u32], concentrations: &[u32], rows: usize, steps: u32, 
     }
 }
 
-// One step; a refusal, which no accepted sheet meets, leaves the river where it is.
-fn advance(
-    river: River,
-    segments: u32,
-    steps: u32,
-    u: u32,
-    e: &[u32],
-    g: &[u32],
-    l: &[u32],
-    a: &[u32],
-    b: &[u32],
-    k: &[u32],
-    ks: &[u32],
-    h: &[u32],
-    m: &[u32],
-    s: &[u32],
-    cl: &[u32],
-    cb: &[u32],
-    kd: &[u32],
-    start: &[u32],
-    channel: &mut [u32],
-    storage: &mut [u32],
-    sediment: &mut [u32],
-    p: &mut [u64],
-    y: &mut [u64],
-) -> River {
-    let stepped = river.step(
-        segments,
-        e,
-        g,
-        l,
-        a,
-        b,
-        k,
-        ks,
-        h,
-        m,
-        s,
-        cl,
-        cb,
-        kd,
-        start,
-        &mut channel[..],
-        &mut storage[..],
-        &mut sediment[..],
-        &mut p[..],
-        &mut y[..],
-        u,
-        steps,
-    );
+// The river after a step; a refusal, which no accepted sheet meets, leaves it where it is.
+fn after(stepped: Step, before: River) -> River {
     match stepped {
-        Step::Stepped(next) => next,
-        Step::Refused(_, _) => river,
+        Step::Stepped(river) => river,
+        Step::Refused(_, _) => before,
     }
 }
 
@@ -331,11 +186,9 @@ fn turn(
         loaded.steps,
         done,
     );
-    let river = advance(
-        at.river,
+    let before = at.river;
+    let stepped = before.step(
         loaded.segments,
-        loaded.steps,
-        u,
         e,
         g,
         l,
@@ -355,12 +208,14 @@ fn turn(
         &mut sediment[..],
         &mut p[..],
         &mut y[..],
+        u,
+        loaded.steps,
     );
-    let used = put_due(
-        is_due(done, loaded.interval),
+    let river = after(stepped, before);
+    let used = put_step(
         river,
         sheet,
-        loaded.gauges as usize,
+        printing(done, loaded.interval, loaded.gauges),
         loaded.segments,
         e,
         g,

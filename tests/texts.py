@@ -1,0 +1,166 @@
+"""Texts of sheets for the tests: a good one, each kind of mistake with its line, and anything at all."""
+from __future__ import annotations
+
+import random
+from typing import NamedTuple
+
+TEXT = """\
+step            10 s
+segment length  10 m
+steps           6
+print every     20 s
+flow at top     20 L/s
+reach   segments  D     A   AS   ALPHA
+unit    -         m2/s  m2  m2   1/s
+1       3         0.5   1   0.2  1e-3
+2       3         0.5   1   0.2  1e-3
+reach   qin      qout     CL    start
+unit    mL/s/km  mL/s/km  ug/L  ug/L
+all     3000     1000     0.5   1
+reach   LAMBDA  LAMBDA2  LAMHAT  LAMHAT2  RHO    Kd    CB
+unit    1/s     1/s      1/s     1/s      g/m3   mL/g  ng/L
+all     1e-4    2e-4     5e-3    3e-3     1e5    5     70
+boundary  from  concentration
+unit      s     ug/L
+1         0     7
+2         20    900
+gauge     distance
+unit      m
+1         10
+2         60
+"""
+
+
+def edited(*edits: tuple[int, str]) -> str:
+    """The text with lines changed; a line may become several, or none."""
+    lines = TEXT.splitlines()
+    for number, line in sorted(edits, reverse=True):
+        lines[number - 1:number] = line.splitlines()
+    return "".join(line + "\n" for line in lines)
+
+
+def numbered(count: int, row: str) -> str:
+    """So many rows; # stands for a row's number, @ for the number before it."""
+    return "\n".join(f"{at} {row}".replace("#", str(at)).replace("@", str(at - 1)) for at in range(1, count + 1))
+
+
+REPORT_NAMES = edited((6, "reach NSEG DISP AREA AREA2 ALPHA"), (10, "reach QLATIN QLATOUT CLATIN start"),
+                      (20, "gauge PRTLOC"))
+OTHER_WAYS = edited((3, "duration 1 min"), (4, "print every 2 steps"), (6, "reach length D A AS ALPHA"),
+                    (7, "unit m m2/s m2 m2 1/s"), (8, "1 30 0.5 1 0.2 1e-3"), (9, "2 30 0.5 1 0.2 1e-3"))
+NEAREST = edited((5, "flow at top ~20.0005 L/s"), (12, "all ~0.5 1000 0.5 1"))
+ROWS_BY_STEP = ((16, "boundary step concentration"), (17, "unit - ug/L"))
+GAUGES_BY_SEGMENT = ((20, "gauge segment"), (21, "unit -"))
+
+
+class Mistaken(NamedTuple):
+    """A text with a mistake: its line, the test that refuses it (0 for the text itself), and words about it."""
+
+    text: str
+    line: int
+    number: int
+    words: str
+
+
+def mistaken(line: int, number: int, words: str, *edits: tuple[int, str]) -> Mistaken:
+    return Mistaken(edited(*edits), line, number, words)
+
+
+MISTAKES = (
+    # lines of the header
+    mistaken(2, 0, "did you mean 'segment length'?", (2, "segment lenght  10 m")),
+    mistaken(3, 0, "'zeit' is not known; known are step,", (3, "zeit 6")),
+    mistaken(4, 0, "steps is given a second time; line 3", (3, "steps 6\nsteps 7")),
+    mistaken(4, 0, "given a second time; line 3", (3, "steps 6\nduration 60 s")),
+    mistaken(22, 0, "no line 'flow at top'", (5, "")),
+    mistaken(22, 0, "no line 'steps' or 'duration'", (3, "")),
+    mistaken(1, 0, "'step' wants a unit after the figure: one of s, min, h, d", (1, "step 10")),
+    mistaken(1, 0, "'mg/L' is not a unit of time", (1, "step 10 mg/L")),
+    mistaken(1, 0, "comes one figure and its unit", (1, "step 10 s ago")),
+    mistaken(1, 0, "comes one figure and its unit", (1, "step")),
+    mistaken(3, 0, "is a count and has no unit", (3, "steps 6 h")),
+    Mistaken("", 1, 0, "no line 'step'"),
+    # figures
+    mistaken(3, 0, "has a comma", (3, "steps 1,000")),
+    mistaken(5, 0, "has a sign", (5, "flow at top -20 L/s")),
+    mistaken(5, 0, "'twenty' is not a number", (5, "flow at top twenty L/s")),
+    mistaken(5, 0, "is not a number", (5, "flow at top 1e400 L/s")),
+    mistaken(5, 0, "that is 20000.5 mL/s: not a whole number. Write ~20.0005 L/s", (5, "flow at top 20.0005 L/s")),
+    mistaken(5, 0, "a field holds at most 4,294,967,295 mL/s; document 01 allows 0 to 100,000,000 mL/s",
+             (5, "flow at top 5000 m3/s")),
+    mistaken(3, 0, "that is 5.5 steps of 10 s: not a whole number", (3, "duration 55 s")),
+    mistaken(4, 0, "that is 0.7 steps of 10 s", (4, "print every 7 s")),
+    mistaken(4, 0, "print every is 20 s, counted in steps of 0 s", (1, "step 0 s")),
+    mistaken(9, 0, "D of reach 2 is 0.50001 m2/s, that is 5000.1 cm2/s", (9, "2 3 0.50001 1 0.2 1e-3")),
+    mistaken(12, 0, "qin of every reach is 0.5 mL/s/km, that is 0.5 mL/s/km: not a whole", (12, "all 0.5 0 0 0")),
+    mistaken(22, 0, "that is 1.2 segments of 10 m", (22, "1 12")),
+    mistaken(19, 0, "from of boundary 2 is 25 s, that is 2.5 steps of 10 s", (19, "2 25 900")),
+    mistaken(18, 0, "a field holds at most 4,294,967,295 ng/L", (17, "unit s g/L")),
+    # tables
+    mistaken(6, 0, "no column 'gamma'", (6, "reach segments D A AS gamma")),
+    mistaken(6, 0, "did you mean 'LAMBDA'?", (6, "reach segments D A AS LAMDA")),
+    mistaken(6, 0, "gives segments in two columns", (6, "reach segments D A AS length")),
+    mistaken(6, 0, "has no columns", (6, "reach")),
+    mistaken(7, 0, "wants its units before its rows", (7, "")),
+    mistaken(7, 0, "4 units for the 5 columns of line 6", (7, "unit - m2/s m2 m2")),
+    mistaken(7, 0, "column ALPHA: 'm2' is not a unit of a rate", (7, "unit - m2/s m2 m2 m2")),
+    mistaken(8, 0, "4 figures for the 5 columns of line 6", (8, "1 3 0.5 1 0.2")),
+    mistaken(8, 0, "ALPHA of reach 1: 'x' is not a number", (8, "1 3 0.5 1 0.2 x")),
+    mistaken(9, 0, "reach 3 comes where reach 2 is missing", (9, "3 3 0.5 1 0.2 1e-3")),
+    mistaken(9, 0, "segments of reach 1 is given a second time; line 8", (9, "1 3 0.5 1 0.2 1e-3")),
+    mistaken(9, 0, "reach 2 has no qin, qout, CL, start", (12, "1 3000 1000 0.5 1")),
+    mistaken(13, 0, "given a second time; line 12 has it for every reach", (12, "all 3000 0 0 0\n1 3000 0 0 0")),
+    mistaken(21, 0, "no row numbered 1 for 'reach'", (8, ""), (9, "")),
+    mistaken(18, 0, "'all' is for reaches", (17, "unit s ug/L\nall 0 7")),
+    mistaken(4, 0, "row 1 belongs to no table", (3, "steps 6\n1 2 3")),
+    mistaken(4, 0, "right below the head of a table", (3, "steps 6\nunit s")),
+    mistaken(21, 0, "the gauge table of line 20 has no units and no rows", (20, "gauge distance\nstep 10 s")),
+    mistaken(19, 0, "no table for 'gauge'", (20, ""), (21, ""), (22, ""), (23, "")),
+    # what document 01 refuses
+    mistaken(72, 3, "the count of reaches is 65; document 01 allows 1 to 64 reaches",
+             (8, numbered(65, "1 0.5 1 0.2 1e-3")), (9, "")),
+    mistaken(274, 3, "the count of boundary rows is 257; document 01 allows 1 to 256 boundary rows",
+             *ROWS_BY_STEP, (18, numbered(257, "@ 7")), (19, "")),
+    mistaken(54, 3, "the count of gauges is 33; document 01 allows 1 to 32 gauges",
+             *GAUGES_BY_SEGMENT, (22, numbered(33, "#")), (23, "")),
+    mistaken(1, 5, "the step dt is 7,200 s; document 01 allows 1 to 3,600 s (refused 5)",
+             (1, "step 2 h"), (4, "print every 1"), *ROWS_BY_STEP, (19, "2 2 900")),
+    mistaken(2, 5, "the segment length dx is 10,100 cm; document 01 allows 10 to 10,000 cm",
+             (2, "segment length 101 m"), *GAUGES_BY_SEGMENT, (22, "1 1"), (23, "2 6")),
+    mistaken(3, 5, "the count of steps M is 100,001; document 01 allows 1 to 100,000", (3, "steps 100001")),
+    mistaken(4, 5, "the print interval is 7; document 01 allows 1 to 6 (M)", (4, "print every 7")),
+    mistaken(5, 5, "document 01 allows 0 to 100,000,000 mL/s", (5, "flow at top 101 m3/s")),
+    mistaken(9, 6, "channel area A of reach 2 is 1,010,000 cm2; document 01 allows 1 to 1,000,000 cm2",
+             (9, "2 3 0.5 101 0.2 1e-3")),
+    mistaken(15, 6, "Kd of reach 1 is 1,001 mL/g; document 01 allows 0 to 1,000 mL/g",
+             (15, "all 1e-4 2e-4 5e-3 3e-3 1e5 1001 70")),
+    mistaken(9, 7, "1,025 segments together; document 01 allows 1,024", (9, "2 1022 0.5 1 0.2 1e-3")),
+    mistaken(18, 8, "row 1 starts at step 1; the first row starts at step 0", (18, "1 10 7")),
+    mistaken(20, 8, "row 3 starts at step 2, which is not after row 2 (step 2)", (19, "2 20 900\n3 20 800")),
+    mistaken(19, 8, "row 2 starts at step 7, after the last step, 6", (19, "2 70 900")),
+    mistaken(19, 8, "the concentration of boundary row 2 is 1,001,000,000 ng/L",
+             (17, "unit s mg/L"), (19, "2 20 1001")),
+    mistaken(23, 9, "gauge 2 stands in segment 7; the river has segments 1 to 6", (23, "2 70")),
+    mistaken(23, 9, "gauge 2 stands in segment 1, which is not below gauge 1 (segment 1)", (23, "2 10")),
+    mistaken(8, 10, "in segment 2 (reach 1) the flow is -10,000 mL/s", (12, "all 0 3e6 0.5 1")),
+    mistaken(9, 11, "in segment 4 (reach 2) Q × dx, 20,060 × 1,000 = 20,060,000 cm4/s", (9, "2 3 0 1 0.2 1e-3")),
+    mistaken(9, 12, "in segment 4 (reach 2) T is 1.", (9, "2 3 0.5 1 0.2 0.3")),
+)
+
+
+def any_text(rng: random.Random) -> str:
+    """The text with some words changed, lost, added or moved."""
+    lines = [line.split() for line in TEXT.splitlines()]
+    words = [word for line in lines for word in line]
+    words += ["~3", "1e9", "-", "#", "all", "0", "²", "٣", "1.2.3", "unit", "reach", "9" * 60]
+    for _ in range(rng.randint(1, 4)):
+        line, kind = rng.choice(lines), rng.randrange(4)
+        if kind == 0 and line:
+            line[rng.randrange(len(line))] = rng.choice(words)
+        elif kind == 1 and line:
+            del line[rng.randrange(len(line))]
+        elif kind == 2:
+            line.insert(rng.randint(0, len(line)), rng.choice(words))
+        else:
+            lines.insert(rng.randint(0, len(lines)), lines.pop(rng.randrange(len(lines))))
+    return "\n".join(" ".join(line) for line in lines)
