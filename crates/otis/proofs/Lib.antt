@@ -1,4 +1,3 @@
-pub mod RowLaws
 pub mod Starting
 pub mod Reporting
 pub mod Stepping

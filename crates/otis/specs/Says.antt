@@ -1,5 +1,4 @@
 -- "For an answer that is an enum, a definition gives this paper's number and values for each of its cases."
-use Prim.Native.Nat.{ℕ}
 use Rattle.model.specs.Refusals.{Outcome, accepted, refused}
 use Rattle.model.specs.Calls as Document
 use Rattle.terms.specs.Says.{placeSays}
@@ -11,8 +10,6 @@ use Rattle.otis.specs.declared.Step.{Step}
 use Rattle.otis.specs.declared.Step.the-variants as Step
 use Rattle.otis.specs.declared.Report.{Report}
 use Rattle.otis.specs.declared.Report.the-variants as Report
-use Rattle.otis.specs.declared.Upstream.{Upstream}
-use Rattle.otis.specs.declared.Upstream.the-variants as Upstream
 
 abbrev pub riverSays : River → Document.River
 riverSays r = record { upstream = r .upstream; steps = r .steps }
@@ -28,7 +25,3 @@ stepSays (Step.Refused number place) = refused number (placeSays place)
 abbrev pub reportSays : Report → Outcome Document.Reported
 reportSays (Report.Reported f) = accepted (record { channel = f .channel; storage = f .storage; sediment = f .sediment })
 reportSays (Report.Refused number place) = refused number (placeSays place)
-
-abbrev pub upstreamSays : Upstream → Outcome ℕ
-upstreamSays (Upstream.Figure u) = accepted u
-upstreamSays (Upstream.Refused number place) = refused number (placeSays place)

@@ -1,4 +1,4 @@
-// The public calls of document 01 on a river that stands in lent lists: start, step and report, and the upstream figure of a step.
+// The public calls of document 01 on a river that stands in lent lists: start, step and report.
 ghost use mathlib.Core.Path.{_≡_};
 ghost use mathlib.Core.List.{[], _∷_};
 ghost use Prim.Native.Nat.{ℕ};
@@ -19,7 +19,6 @@ use terms::Finding;
 use terms::Place;
 
 mod entries;
-pub mod rows;
 
 // The state's U and its count of steps done; the three lists of figures are lent.
 pub struct River {
@@ -46,11 +45,6 @@ pub struct Figures {
 
 pub enum Report {
     Reported(Figures),
-    Refused(u32, Place),
-}
-
-pub enum Upstream {
-    Figure(u32),
     Refused(u32, Place),
 }
 

@@ -1,6 +1,8 @@
 // Program river: reads a river sheet on standard input and prints its listing, or `refused` and the number of the refusal.
 ghost use Prim.Native.Nat.{_≤_};
 ghost use lib.ListN.{length};
+use boundary::Upstream;
+use boundary::rows::upstream;
 use libc::STDIN_FILENO;
 use loader::Load;
 use loader::Loaded;
@@ -9,8 +11,6 @@ use otis::Report;
 use otis::River;
 use otis::Start;
 use otis::Step;
-use otis::Upstream;
-use otis::rows::upstream;
 use output::flush;
 use output::put_number;
 use output::put_text;

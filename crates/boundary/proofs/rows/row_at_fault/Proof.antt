@@ -1,12 +1,13 @@
 -- `rows::row_at_fault` meets its contract. The loop's invariant: no row below i is at fault, and `before` is the start of the row before.
 use Prim.Native.Nat.{_-_}
 use mathlib.Core.Path.{sym, _∙_}
+use native.Mathlib.Omega.{arith}
 use borrow.Author.Needs.{needs}
 use lib.ListN.{length}
-use Rattle.lists.proofs.Lowest.{searching-end}
-use Rattle.otis.proofs.RowLaws.{Passing, passing-start, passing-hit, passing-miss}
-use Rattle.otis.proofs.rows.row_at_fault.Statement.{statement}
-use Rattle.otis.proofs.rows.row_at_fault.Tie as tie
+use Rattle.lists.proofs.Lowest.{searching-hit, searching-end}
+use Rattle.boundary.proofs.RowLaws.{Passing, passing-start, passing-row, passing-miss}
+use Rattle.boundary.proofs.rows.row_at_fault.Statement.{statement}
+use Rattle.boundary.proofs.rows.row_at_fault.Tie as tie
 
 abbrev Inv-loop : tie.InvT-loop
 Inv-loop starts concentrations steps before₀ i₀ before i = Passing steps starts concentrations i before
@@ -16,13 +17,15 @@ abbrev μ-loop : tie.MeasureT-loop
 
 returns : tie.Need-returns Inv-loop μ-loop
 returns c =
-    passing-hit (c .before .before .before .before .before .loop .inv) (c .before .before .before .before .loop-test .taken)
-    (sym (c .before .row-fault .ensures) ∙ c .if1 .taken)
+    let l = c .before .before .before .before .before in
+    searching-hit (l .loop .inv .searching) (omega arith)
+    (sym (c .before .row-fault .ensures _ _ (passing-row (l .loop .inv))) ∙ c .if1 .taken)
 
 loop-again : tie.Need-loop-again Inv-loop μ-loop
 loop-again c =
-    passing-miss (c .before .before .before .before .before .before .loop .inv) (c .before .before .before .before .before .loop-test .taken)
-    (sym (c .before .before .row-fault .ensures) ∙ c .before .if1 .left)
+    let l = c .before .before .before .before .before .before in
+    passing-miss (l .loop .inv) (omega arith)
+    (sym (c .before .before .row-fault .ensures _ _ (passing-row (l .loop .inv))) ∙ c .before .if1 .left)
 
 returns-2 : tie.Need-returns-2 Inv-loop μ-loop
 returns-2 c = searching-end (c .before .loop .inv .searching) (c .loop-test .left)
@@ -34,6 +37,7 @@ row-at-fault-spec =
     Inv-loop
     μ-loop
     (λ c. passing-start)
+    (λ c. search needs)
     (λ c. search needs)
     (λ c. search needs)
     (λ c. search needs)

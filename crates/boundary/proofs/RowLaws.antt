@@ -1,22 +1,21 @@
--- Laws of the boundary rows: a row's fault from its numbers, and a loop that looks for the last row started.
-use mathlib.Core.Path.{_≡_, refl, sym, _∙_}
-use mathlib.Core.Bool.{true, false, not, cond, _||_}
+-- Laws of the boundary rows: a loop that looks for the lowest at fault, and one that looks for the last row started.
+use mathlib.Core.Path.{_≡_, refl}
+use mathlib.Core.Bool.{false, not, cond, _||_}
 use mathlib.Core.List.{List}
-use Prim.Native.Nat.{ℕ, zero, suc, _+_, _<_, _≤_}
+use Prim.Native.Nat.{ℕ, _+_, _-_, _<_, _≤_}
 use native.Mathlib.Numerals.{add-one}
 use native.Mathlib.Omega.{arith}
 use borrow.Author.Tests.{eqb-true, not-false}
 use lib.Dec.{eqb, leb}
 use lib.ListN.{length, getD, drop, drop-of-length-le}
 use lib.Seq.{drop-cons}
-use Rattle.lists.specs.Lists.{lowest, notRising}
-use Rattle.lists.proofs.Lowest.{Searching, searching-start, searching-hit, searching-miss}
+use Rattle.lists.proofs.Lowest.{Searching, searching-start, searching-miss}
 use Rattle.lists.proofs.Shorter.{neither}
 use Rattle.model.specs.Ranges.{rowSection, outside}
 use Rattle.model.specs.Refusals.{passes, first}
-use Rattle.model.specs.Load.{startsLate, rowFault}
+use Rattle.model.specs.Load.{rowFault}
 use Rattle.model.specs.Upstream.{lastStarted, upstreamAt, upstreamTests}
-use Rattle.otis.specs.Row.{faultOf}
+use Rattle.sheet.specs.Entries.{IsRow}
 use Rattle.model.proofs.Ranges.{inside}
 use Rattle.model.proofs.Refusals.{all-pass, test-clear}
 
@@ -34,37 +33,24 @@ unfolding upstreamTests
 rows-counted M starts concentrations e =
     omega (arith, counted (length starts) (length concentrations) (test-clear 3 _ (all-pass (upstreamTests M starts concentrations) e .0)))
 
--- the start of the row before row j, which row 0 does not have
-abbrev pub previous : List ℕ → ℕ → ℕ
-previous starts zero = 0
-previous starts (suc j) = getD starts j 0
-
-row-fault-of : (M : ℕ) (starts concentrations : List ℕ) (j before : ℕ) → before ≡ previous starts j →
-    faultOf M j before (getD starts j 0) (getD concentrations j 0) ≡ rowFault M starts concentrations j
-unfolding faultOf rowFault startsLate notRising
-row-fault-of M starts concentrations zero before e = refl
-row-fault-of M starts concentrations (suc j) before e = rw e
-
 -- a loop that looks for the lowest row at fault, and has passed i rows, the last of which starts at `before`
 pub record Passing (M : ℕ) (starts concentrations : List ℕ) (i before : ℕ) : Type 0 where
   pub searching : Searching (rowFault M starts concentrations) (length starts) i
-  pub last : before ≡ previous starts i
+  pub last : 0 < i → getD starts (i - 1) 0 ≡ before
 
 module _ {M : ℕ} {starts concentrations : List ℕ} where
   pub passing-start : Passing M starts concentrations 0 0
-  passing-start = record { searching = searching-start; last = refl }
+  passing-start = record { searching = searching-start; last = λ h. absurd (omega arith) }
 
-  module _ {i before : ℕ} (r : Passing M starts concentrations i before) (h : i < length starts) where
-    pub passing-hit : faultOf M i before (getD starts i 0) (getD concentrations i 0) ≡ true →
-        i ≡ lowest (length starts) (rowFault M starts concentrations)
-    passing-hit e = searching-hit (r .searching) h (sym (row-fault-of M starts concentrations i before (r .last)) ∙ e)
+  module _ {i before : ℕ} (r : Passing M starts concentrations i before) where
+    -- the row that the loop stands at
+    pub passing-row : IsRow starts concentrations i before (getD starts i 0) (getD concentrations i 0)
+    passing-row = record { before-is = r .last; start-is = refl; concentration-is = refl }
 
-    pub passing-miss : faultOf M i before (getD starts i 0) (getD concentrations i 0) ≡ false →
+    pub passing-miss : i < length starts → rowFault M starts concentrations i ≡ false →
         Passing M starts concentrations (i + 1) (getD starts i 0)
-    passing-miss e = record {
-      searching = searching-miss (r .searching) h (sym (row-fault-of M starts concentrations i before (r .last)) ∙ e);
-      last = rw (add-one i);
-    }
+    passing-miss h e =
+        let back : i + 1 - 1 ≡ i = omega arith in record { searching = searching-miss (r .searching) h e; last = λ h. rw back }
 
 -- a loop that has passed i rows, and found this concentration
 pub record Looking (j : ℕ) (starts concentrations : List ℕ) (i found : ℕ) : Type 0 where

@@ -4,9 +4,9 @@ use mathlib.Core.Path.{sym, _∙_}
 use borrow.Author.Needs.{needs}
 use Rattle.model.specs.Upstream.{upstreamTests}
 use Rattle.judge.proofs.Found.{fails-at, passes-at}
-use Rattle.otis.proofs.RowLaws.{counted}
-use Rattle.otis.proofs.rows.judge.Statement.{statement}
-use Rattle.otis.proofs.rows.judge.Tie as tie
+use Rattle.boundary.proofs.RowLaws.{counted}
+use Rattle.boundary.proofs.rows.judge.Statement.{statement}
+use Rattle.boundary.proofs.rows.judge.Tie as tie
 
 returns : tie.Need-returns
 unfolding upstreamTests

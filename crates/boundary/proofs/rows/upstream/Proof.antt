@@ -3,9 +3,9 @@ use mathlib.Core.Path.{sym, ap, _∙_}
 use borrow.Author.Needs.{needs}
 use Rattle.terms.specs.Says.{findingSays}
 use Rattle.model.specs.Upstream.{upstreamAnswer}
-use Rattle.otis.proofs.RowLaws.{rows-counted}
-use Rattle.otis.proofs.rows.upstream.Statement.{statement}
-use Rattle.otis.proofs.rows.upstream.Tie as tie
+use Rattle.boundary.proofs.RowLaws.{rows-counted}
+use Rattle.boundary.proofs.rows.upstream.Statement.{statement}
+use Rattle.boundary.proofs.rows.upstream.Tie as tie
 
 last-started-requires : tie.Need-last-started-requires
 last-started-requires c κs =

@@ -1,8 +1,8 @@
 -- `rows::count_fault` meets its contract.
 use borrow.Author.Needs.{needs}
 use mathlib.Core.Path.{sym, _∙_}
-use Rattle.otis.proofs.rows.count_fault.Statement.{statement}
-use Rattle.otis.proofs.rows.count_fault.Tie as tie
+use Rattle.boundary.proofs.rows.count_fault.Statement.{statement}
+use Rattle.boundary.proofs.rows.count_fault.Tie as tie
 
 returns : tie.Need-returns
 returns c = rw (sym (c .before .outside .ensures) ∙ c .if1 .taken)

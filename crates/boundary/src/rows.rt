@@ -10,40 +10,22 @@ ghost use Rattle.model.specs.Load.{rowFault};
 ghost use Rattle.model.specs.Upstream.{upstreamAt, upstreamTests, upstreamAnswer};
 ghost use Rattle.terms.specs.Says.{findingSays};
 ghost use Rattle.lists.specs.Lists.{lowest};
-ghost use Rattle.otis.specs.Says.{upstreamSays};
-ghost use Rattle.otis.specs.Row.{faultOf};
+ghost use Rattle.boundary.specs.Says.{upstreamSays};
 use crate::Upstream;
-use judge::limits::or_above;
-use judge::limits::or_high;
 use judge::limits::outside;
+use sheet::faults::row_fault;
 use terms::Finding;
 use terms::Place;
 
-// Test 8 of a row on its numbers.
-fn row_fault(steps: u32, row: usize, before: u32, start: u32, concentration: u32) -> bool
-    ensures { λ r. ⌜ r ≡ faultOf steps row before start concentration ⌝ }
-{
-    if row == 0 {
-        return or_high(
-            or_above(start != 0, steps as u64, start as u64),
-            concentration,
-        );
-    }
-    or_high(
-        or_above(start <= before, steps as u64, start as u64),
-        concentration,
-    )
-}
-
 // The lowest row at fault, counting from 0, or the count of rows.
 fn row_at_fault(starts: &[u32], concentrations: &[u32], steps: u32) -> usize
-    requires { ⌜ length (now starts) ≤ length (now concentrations) ⌝ }
+    requires { ⌜ (length (now starts) ≤ length (now concentrations)) × (length (now starts) ≤ 256) ⌝ }
     ensures { λ r. ⌜ r ≡ lowest (length (now (starts .entry))) (rowFault steps (now (starts .entry)) (now (concentrations .entry))) ⌝ }
 {
     let mut before: u32 = 0;
     let mut i: usize = 0;
     while i < starts.len() {
-        if row_fault(steps, i, before, starts[i], concentrations[i]) {
+        if row_fault(steps, i as u32, before, starts[i], concentrations[i]) {
             return i;
         }
         before = starts[i];

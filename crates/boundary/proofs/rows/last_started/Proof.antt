@@ -3,9 +3,9 @@ use Prim.Native.Nat.{_-_}
 use native.Mathlib.Omega.{arith}
 use borrow.Author.Needs.{needs}
 use lib.ListN.{length}
-use Rattle.otis.proofs.RowLaws.{Looking, looking-start, looking-turn, looking-end}
-use Rattle.otis.proofs.rows.last_started.Statement.{statement}
-use Rattle.otis.proofs.rows.last_started.Tie as tie
+use Rattle.boundary.proofs.RowLaws.{Looking, looking-start, looking-turn, looking-end}
+use Rattle.boundary.proofs.rows.last_started.Statement.{statement}
+use Rattle.boundary.proofs.rows.last_started.Tie as tie
 
 abbrev Inv-loop : tie.InvT-loop
 Inv-loop starts concentrations j found₀ i₀ found i = Looking j starts concentrations i found

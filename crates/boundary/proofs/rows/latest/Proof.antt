@@ -1,7 +1,7 @@
 -- `rows::latest` meets its contract.
 use borrow.Author.Tests.{le-leb, lt-leb}
-use Rattle.otis.proofs.rows.latest.Statement.{statement}
-use Rattle.otis.proofs.rows.latest.Tie as tie
+use Rattle.boundary.proofs.rows.latest.Statement.{statement}
+use Rattle.boundary.proofs.rows.latest.Tie as tie
 
 returns : tie.Need-returns
 returns c = rw (le-leb _ _ (c .if1 .taken))
