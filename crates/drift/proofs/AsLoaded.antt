@@ -47,7 +47,7 @@ module _ (f : ℕ → Segment) (n : ℕ) where
 pub loaded-lists : LoadedLists
 unfolding loadColumns loaded loadAnswer
 loaded-lists sheet records columns v e =
-    let values : loaded sheet ≡ v = accepted-values (loadTests sheet records columns) (loaded sheet) v e in
+    let values : loaded sheet ≡ v = accepted-values (loadTests sheet (length records) columns) (loaded sheet) v e in
     let count : v .segments ≡ segmentCount sheet = ap (λ (x : Loaded). x .segments) (sym values) in
     record {
       count = count;

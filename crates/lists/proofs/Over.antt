@@ -1,10 +1,10 @@
 -- Laws of `over`: what a pass that writes the first entries leaves, and a loop that writes them one by one.
 use mathlib.Core.Path.{_≡_, refl, sym, ap, ap₂, _∙_}
-use mathlib.Core.List.{List, [], _∷_, _++_}
+use mathlib.Core.List.{List, [], _∷_, _++_, map, map-append}
 use Prim.Native.Nat.{ℕ, zero, suc, _+_, _-_, _<_, _≤_}
 use native.Mathlib.Numerals.{add-one}
 use native.Mathlib.Omega.{arith}
-use lib.ListN.{length, getD, drop, set, length-append, length-drop, length-set, List·getD-append}
+use lib.ListN.{length, getD, drop, set, length-append, length-drop, length-set, length-map, List·getD-append}
 use lib.Seq.{drop-cons, getD-append-add, getD-drop, set-at, append-snoc}
 use Rattle.lists.specs.Lists.{tab, over}
 use Rattle.lists.proofs.Tab.{length-tab, tab-last}
@@ -24,6 +24,16 @@ module _ {ℓ} {A : Type ℓ} where
       let e : i ≡ length xs + (i - length xs) = omega arith in
       ap (λ k. getD (over xs before) k d) e ∙ getD-append-add xs (drop (length xs) before) (i - length xs) d
       ∙ getD-drop (length xs) before (i - length xs) d ∙ ap (λ k. getD before k d) (sym e)
+
+module _ {ℓ} {A B : Type ℓ} (f : A → B) where
+  map-drop : (n : ℕ) (xs : List A) → map f (drop n xs) ≡ drop n (map f xs)
+  map-drop zero xs = refl
+  map-drop (suc n) [] = refl
+  map-drop (suc n) (x ∷ xs) = map-drop n xs
+
+  -- the same of what each entry means
+  pub map-over : (xs before : List A) → map f (over xs before) ≡ over (map f xs) (map f before)
+  map-over xs before = map-append f xs (drop (length xs) before) ∙ rw (map-drop (length xs) before, length-map xs f)
 
 -- a loop that writes f 0, f 1, .. over the first entries of `before`, and has written i
 pub record Filling {ℓ} {A : Type ℓ} (f : ℕ → A) (before : List A) (i : ℕ) (list : List A) : Type ℓ where

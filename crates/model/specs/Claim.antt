@@ -3,8 +3,9 @@ use mathlib.Core.Path.{_≡_}
 use mathlib.Core.List.{List, [], _∷_}
 use Prim.Native.Nat.{ℕ, _-_, _*_}
 use lib.Dec.{T}
+use lib.ListN.{length}
 use Rattle.fractions.specs.Fractions.{Fraction, Same, Within, _·_}
-use Rattle.model.specs.Sheet.{segmentCount}
+use Rattle.model.specs.Sheet.{Reach, segmentCount}
 use Rattle.model.specs.HalfStep.{Segment}
 use Rattle.model.specs.Equations.{Figures}
 use Rattle.model.specs.ExactRiver.{ExactFigures}
@@ -53,15 +54,15 @@ pub record Holds (sheet : List ℕ) (before : State) (calls : List Call) : Type 
       v ≡ reported (lent .columns) (run before calls) (number - 1)
 
 -- "A run is one accepted loading, one accepted start into lists of any content, then any list of starts, steps and reports, refused
--- ones included."
+-- ones included." The loading is lent a list of reach records and the fourteen lists.
 abbrev pub Demand3 : Type 0
 Demand3 =
-    (sheet : List ℕ) (records : ℕ) (columns : Columns) (v : Loaded) → loadAnswer sheet records columns ≡ accepted v →
+    (sheet : List ℕ) (records : List Reach) (columns : Columns) (v : Loaded) → loadAnswer sheet (length records) columns ≡ accepted v →
     (before : State) (lent : Lent) (u : ℕ) (calls : List Call) → T (accepts before (start lent u)) →
     Fed sheet before (start lent u ∷ calls) → Holds sheet before (start lent u ∷ calls)
 
 -- What an accepted loading leaves in the fourteen lists is what an accepted call is to be lent.
 abbrev pub LoadedLists : Type 0
 LoadedLists =
-    (sheet : List ℕ) (records : ℕ) (columns : Columns) (v : Loaded) → loadAnswer sheet records columns ≡ accepted v →
-    AsLoaded sheet (record { count = v .segments; columns = loadColumns sheet records columns })
+    (sheet : List ℕ) (records : List Reach) (columns : Columns) (v : Loaded) → loadAnswer sheet (length records) columns ≡ accepted v →
+    AsLoaded sheet (record { count = v .segments; columns = loadColumns sheet (length records) columns })

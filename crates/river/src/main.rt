@@ -6,6 +6,7 @@ use boundary::rows::upstream;
 use libc::STDIN_FILENO;
 use loader::Load;
 use loader::Loaded;
+use loading::load_lists;
 use otis::Figures;
 use otis::Report;
 use otis::River;
@@ -22,9 +23,6 @@ mod output;
 
 // The longest sheet has 6,308 bytes; one byte more shows that bytes follow its last gauge.
 const LONGEST: usize = 6309;
-
-// Reach records are not kept: a loading is judged as if lent room for the most reaches that a sheet can have.
-const RECORDS: usize = 64;
 
 // A refused sheet prints only `refused` and its number.
 fn refused(number: u32) {
@@ -428,9 +426,8 @@ fn print(sheet: &[u8]) {
     let mut cb = [0u32; 1024];
     let mut kd = [0u32; 1024];
     let mut start = [0u32; 1024];
-    let answer = Loaded::load(
+    let answer = load_lists(
         sheet,
-        RECORDS,
         &mut e,
         &mut g,
         &mut l,

@@ -14,7 +14,8 @@ pub enum Finding {
     Fails(u32, Place),
 }
 
-// A reach record: the sixteen fields of a reach, in the sheet's order.
+// A reach record: the sixteen fields of a reach, in the sheet's order, and in memory as C lays them out.
+#[repr(C)]
 pub struct Reach {
     pub segments: u32,
     pub dispersion: u32,

@@ -1,0 +1,123 @@
+// The loader: a loading that is lent the list of reach records with the other lists.
+ghost use mathlib.Core.Path.{_≡_};
+ghost use mathlib.Core.List.{map};
+ghost use Prim.Native.Nat.{ℕ, _≤_};
+ghost use lib.ListN.{length};
+ghost use Rattle.model.specs.Load.{loadAnswer, loadColumns, loadRecords};
+ghost use Rattle.terms.specs.Says.{reachSays};
+ghost use Rattle.terms.specs.Lent.{columns};
+ghost use Rattle.loader.specs.Says.{loadSays};
+use loader::Load;
+use loader::Loaded;
+use records::fill;
+use records::fill_count;
+use terms::Reach;
+
+// The most reaches that a sheet can have.
+const REACHES: usize = 64;
+
+// "The reach table is handed to the loader as a list of reach records, lent with the other lists": tests 1 to 13 on any bytes and any
+// lists; where all pass, the first entries of each list are written, otherwise nothing.
+pub fn load(
+    sheet: &[u8],
+    reaches: &mut [Reach],
+    e: &mut [u32],
+    g: &mut [u32],
+    l: &mut [u32],
+    a: &mut [u32],
+    b: &mut [u32],
+    k: &mut [u32],
+    ks: &mut [u32],
+    h: &mut [u32],
+    m: &mut [u32],
+    s: &mut [u32],
+    cl: &mut [u32],
+    cb: &mut [u32],
+    kd: &mut [u32],
+    start: &mut [u32],
+) -> Load
+    ensures answer { λ r. ⌜ loadSays r ≡ loadAnswer (now (sheet .entry)) (length (now (reaches .entry))) (columns (now (e .entry)) (now (g .entry)) (now (l .entry)) (now (a .entry)) (now (b .entry)) (now (k .entry)) (now (ks .entry)) (now (h .entry)) (now (m .entry)) (now (s .entry)) (now (cl .entry)) (now (cb .entry)) (now (kd .entry)) (now (start .entry))) ⌝ }
+    ensures lists { λ r. ⌜ columns (now (e .exit)) (now (g .exit)) (now (l .exit)) (now (a .exit)) (now (b .exit)) (now (k .exit)) (now (ks .exit)) (now (h .exit)) (now (m .exit)) (now (s .exit)) (now (cl .exit)) (now (cb .exit)) (now (kd .exit)) (now (start .exit)) ≡ loadColumns (now (sheet .entry)) (length (now (reaches .entry))) (columns (now (e .entry)) (now (g .entry)) (now (l .entry)) (now (a .entry)) (now (b .entry)) (now (k .entry)) (now (ks .entry)) (now (h .entry)) (now (m .entry)) (now (s .entry)) (now (cl .entry)) (now (cb .entry)) (now (kd .entry)) (now (start .entry))) ⌝ }
+    ensures records { λ r. ⌜ map reachSays (now (reaches .exit)) ≡ loadRecords (now (sheet .entry)) (map reachSays (now (reaches .entry))) (columns (now (e .entry)) (now (g .entry)) (now (l .entry)) (now (a .entry)) (now (b .entry)) (now (k .entry)) (now (ks .entry)) (now (h .entry)) (now (m .entry)) (now (s .entry)) (now (cl .entry)) (now (cb .entry)) (now (kd .entry)) (now (start .entry))) ⌝ }
+{
+    let answer = Loaded::load(
+        sheet,
+        reaches.len(),
+        e,
+        g,
+        l,
+        a,
+        b,
+        k,
+        ks,
+        h,
+        m,
+        s,
+        cl,
+        cb,
+        kd,
+        start,
+    );
+    fill(reaches, sheet, fill_count(answer, sheet));
+    answer
+}
+
+// The same with a list of reach records of its own, which is long enough for every sheet: for a caller that has no use for them.
+pub fn load_lists(
+    sheet: &[u8],
+    e: &mut [u32],
+    g: &mut [u32],
+    l: &mut [u32],
+    a: &mut [u32],
+    b: &mut [u32],
+    k: &mut [u32],
+    ks: &mut [u32],
+    h: &mut [u32],
+    m: &mut [u32],
+    s: &mut [u32],
+    cl: &mut [u32],
+    cb: &mut [u32],
+    kd: &mut [u32],
+    start: &mut [u32],
+) -> Load
+    ensures answer { λ r. ⌜ loadSays r ≡ loadAnswer (now (sheet .entry)) 64 (columns (now (e .entry)) (now (g .entry)) (now (l .entry)) (now (a .entry)) (now (b .entry)) (now (k .entry)) (now (ks .entry)) (now (h .entry)) (now (m .entry)) (now (s .entry)) (now (cl .entry)) (now (cb .entry)) (now (kd .entry)) (now (start .entry))) ⌝ }
+    ensures lists { λ r. ⌜ columns (now (e .exit)) (now (g .exit)) (now (l .exit)) (now (a .exit)) (now (b .exit)) (now (k .exit)) (now (ks .exit)) (now (h .exit)) (now (m .exit)) (now (s .exit)) (now (cl .exit)) (now (cb .exit)) (now (kd .exit)) (now (start .exit)) ≡ loadColumns (now (sheet .entry)) 64 (columns (now (e .entry)) (now (g .entry)) (now (l .entry)) (now (a .entry)) (now (b .entry)) (now (k .entry)) (now (ks .entry)) (now (h .entry)) (now (m .entry)) (now (s .entry)) (now (cl .entry)) (now (cb .entry)) (now (kd .entry)) (now (start .entry))) ⌝ }
+    ensures room { λ r. ⌜ ((records : ℕ) → 64 ≤ records → loadSays r ≡ loadAnswer (now (sheet .entry)) records (columns (now (e .entry)) (now (g .entry)) (now (l .entry)) (now (a .entry)) (now (b .entry)) (now (k .entry)) (now (ks .entry)) (now (h .entry)) (now (m .entry)) (now (s .entry)) (now (cl .entry)) (now (cb .entry)) (now (kd .entry)) (now (start .entry)))) ⌝ }
+{
+    let mut reaches = [Reach {
+        segments: 0,
+        dispersion: 0,
+        area: 0,
+        area2: 0,
+        alpha: 0,
+        qin: 0,
+        qout: 0,
+        cl: 0,
+        lambda: 0,
+        lambda2: 0,
+        lamhat: 0,
+        lamhat2: 0,
+        rho: 0,
+        kd: 0,
+        cb: 0,
+        start: 0,
+    }; REACHES];
+    load(
+        sheet,
+        &mut reaches,
+        e,
+        g,
+        l,
+        a,
+        b,
+        k,
+        ks,
+        h,
+        m,
+        s,
+        cl,
+        cb,
+        kd,
+        start,
+    )
+}

@@ -1,0 +1,4 @@
+pub mod Again
+pub mod Filled
+pub mod Locals
+pub mod NoReach
