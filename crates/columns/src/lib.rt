@@ -40,7 +40,9 @@ pub fn any_short(
     kd: &[u32],
     start: &[u32],
 ) -> bool
-    ensures { λ r. ⌜ r ≡ anyShorter n (columnLists (columns (now (e .entry)) (now (g .entry)) (now (l .entry)) (now (a .entry)) (now (b .entry)) (now (k .entry)) (now (ks .entry)) (now (h .entry)) (now (m .entry)) (now (s .entry)) (now (cl .entry)) (now (cb .entry)) (now (kd .entry)) (now (start .entry)))) ⌝ }
+    ensures { λ r. ⌜ r ≡ anyShorter n (columnLists (columns (now (e .entry)) (now (g .entry)) (now (l .entry)) (now (a .entry)) (now (b .entry))
+        (now (k .entry)) (now (ks .entry)) (now (h .entry)) (now (m .entry)) (now (s .entry)) (now (cl .entry)) (now (cb .entry)) (now (kd .entry))
+        (now (start .entry)))) ⌝ }
 {
     short(
         n,
@@ -116,8 +118,13 @@ pub fn fill(
     kd: &mut [u32],
     start: &mut [u32],
 )
-    requires { ⌜ Read (now sheet) n × Clear 13 n (courseOf (now sheet)) × Long n (columns (now e) (now g) (now l) (now a) (now b) (now k) (now ks) (now h) (now m) (now s) (now cl) (now cb) (now kd) (now start)) ⌝ }
-    ensures { λ r. ⌜ columns (now (e .exit)) (now (g .exit)) (now (l .exit)) (now (a .exit)) (now (b .exit)) (now (k .exit)) (now (ks .exit)) (now (h .exit)) (now (m .exit)) (now (s .exit)) (now (cl .exit)) (now (cb .exit)) (now (kd .exit)) (now (start .exit)) ≡ writeSegments (loadedSegments (now (sheet .entry))) (columns (now (e .entry)) (now (g .entry)) (now (l .entry)) (now (a .entry)) (now (b .entry)) (now (k .entry)) (now (ks .entry)) (now (h .entry)) (now (m .entry)) (now (s .entry)) (now (cl .entry)) (now (cb .entry)) (now (kd .entry)) (now (start .entry))) ⌝ }
+    requires { ⌜ Read (now sheet) n × Clear 13 n (courseOf (now sheet)) × Long n (columns (now e) (now g) (now l) (now a) (now b) (now k) (now ks)
+        (now h) (now m) (now s) (now cl) (now cb) (now kd) (now start)) ⌝ }
+    ensures { λ r. ⌜ columns (now (e .exit)) (now (g .exit)) (now (l .exit)) (now (a .exit)) (now (b .exit)) (now (k .exit)) (now (ks .exit))
+        (now (h .exit)) (now (m .exit)) (now (s .exit)) (now (cl .exit)) (now (cb .exit)) (now (kd .exit)) (now (start .exit)) ≡ writeSegments
+        (loadedSegments (now (sheet .entry))) (columns (now (e .entry)) (now (g .entry)) (now (l .entry)) (now (a .entry)) (now (b .entry))
+        (now (k .entry)) (now (ks .entry)) (now (h .entry)) (now (m .entry)) (now (s .entry)) (now (cl .entry)) (now (cb .entry)) (now (kd .entry))
+        (now (start .entry))) ⌝ }
 {
     let step = dx(sheet);
     let mut at = Cursor::start(reach(sheet, 0));

@@ -1,16 +1,14 @@
 -- Demand 3, proved: one claim about every list of calls.
-use mathlib.Core.Path.{_≡_, sym, _∙_}
 use mathlib.Core.Bool.{Bool, true, false}
 use mathlib.Core.List.{List, _∷_}
 use Prim.Native.Nat.{ℕ}
 use lib.Dec.{T}
-use Rattle.model.specs.Calls.{reportTests, reportAnswer}
 use Rattle.model.specs.State.{loadedSegments, State}
 use Rattle.model.specs.Runs.{Lent, Call, start, accepts, after, run, AsLoaded, Fed, event, events, Exact, noRiver, ExactEvent, ExactRun}
 use Rattle.model.specs.Claim.{Holds, Demand3}
-use Rattle.model.proofs.Refusals.{accepted-values}
 use Rattle.exact.proofs.OneSet.{close-near}
 use Rattle.drift.proofs.Distance.{Good, begin-good, run-good, run-exists}
+use Rattle.drift.proofs.Reports.{report-figures}
 use Rattle.drift.proofs.Unique.{none-yet, run-twins}
 
 -- an accepted start can be made of any river
@@ -20,7 +18,7 @@ start-exists sheet false lent u = (noRiver, ExactEvent.stays)
 
 holds : (sheet : List ℕ) (before : State) (lent : Lent) (u : ℕ) (calls : List Call) → T (accepts before (start lent u)) →
     Fed sheet before (start lent u ∷ calls) → Holds sheet before (start lent u ∷ calls)
-unfolding events run reportAnswer
+unfolding events run
 holds sheet before lent u calls accepted (Fed.more lists fed) = record {
   exists =
       let x = start-exists sheet (accepts before (start lent u)) lent u in
@@ -29,7 +27,7 @@ holds sheet before lent u calls accepted (Fed.more lists fed) = record {
   unique = λ q r x y. let w = run-twins (loadedSegments sheet) _ noRiver noRiver q r none-yet x y in (w .now, w .past);
   counted = λ q x. ends q x .counted;
   near = λ q x. close-near (loadedSegments sheet) (ends q x .size) (ends q x .close);
-  reports = λ lent number v lists e. sym (accepted-values (reportTests (lent .count) (lent .columns) _ number) _ v e);
+  reports = λ lent number v lists e. report-figures _ number v lists e;
 }
   where
     ends : (q : Exact) → ExactRun (loadedSegments sheet) noRiver (event (accepts before (start lent u)) (start lent u) ∷ events (after before (start lent u)) calls) q →

@@ -1,5 +1,5 @@
--- The three equations for two sets of half-step numbers, an old one for the right sides and a new one for the left (request 1 of
--- document 02): "2l and 2m become the old number plus the new". Document 01's equations are the case old = new (proofs/OldIsNew).
+-- The three equations for two sets of half-step numbers, an old one for the right sides and a new one for the left: 2l and 2m become the
+-- old number plus the new. Document 01's equations are the case old = new (proofs/OldIsNew).
 use Prim.Native.Nat.{_+_, _-_, _*_}
 use Rattle.fractions.specs.Fractions.{Fraction, Same, whole, _⊕_, _⊖_, _·_}
 use Rattle.rounding.specs.Nearest.{S}

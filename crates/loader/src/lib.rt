@@ -56,7 +56,9 @@ fn judge(
     kd: &[u32],
     start: &[u32],
 ) -> Finding
-    ensures { λ r. ⌜ findingSays r ≡ first (loadTests (now (sheet .entry)) records (columns (now (e .entry)) (now (g .entry)) (now (l .entry)) (now (a .entry)) (now (b .entry)) (now (k .entry)) (now (ks .entry)) (now (h .entry)) (now (m .entry)) (now (s .entry)) (now (cl .entry)) (now (cb .entry)) (now (kd .entry)) (now (start .entry)))) ⌝ }
+    ensures { λ r. ⌜ findingSays r ≡ first (loadTests (now (sheet .entry)) records (columns (now (e .entry)) (now (g .entry)) (now (l .entry))
+        (now (a .entry)) (now (b .entry)) (now (k .entry)) (now (ks .entry)) (now (h .entry)) (now (m .entry)) (now (s .entry)) (now (cl .entry))
+        (now (cb .entry)) (now (kd .entry)) (now (start .entry)))) ⌝ }
 {
     if let Finding::Fails(number, place) = sheet::judge(sheet) {
         return Finding::Fails(number, place);
@@ -116,8 +118,14 @@ impl Loaded {
         kd: &mut [u32],
         start: &mut [u32],
     ) -> Load
-        ensures answer { λ r. ⌜ loadSays r ≡ loadAnswer (now (sheet .entry)) records (columns (now (e .entry)) (now (g .entry)) (now (l .entry)) (now (a .entry)) (now (b .entry)) (now (k .entry)) (now (ks .entry)) (now (h .entry)) (now (m .entry)) (now (s .entry)) (now (cl .entry)) (now (cb .entry)) (now (kd .entry)) (now (start .entry))) ⌝ }
-        ensures lists { λ r. ⌜ columns (now (e .exit)) (now (g .exit)) (now (l .exit)) (now (a .exit)) (now (b .exit)) (now (k .exit)) (now (ks .exit)) (now (h .exit)) (now (m .exit)) (now (s .exit)) (now (cl .exit)) (now (cb .exit)) (now (kd .exit)) (now (start .exit)) ≡ loadColumns (now (sheet .entry)) records (columns (now (e .entry)) (now (g .entry)) (now (l .entry)) (now (a .entry)) (now (b .entry)) (now (k .entry)) (now (ks .entry)) (now (h .entry)) (now (m .entry)) (now (s .entry)) (now (cl .entry)) (now (cb .entry)) (now (kd .entry)) (now (start .entry))) ⌝ }
+        ensures answer { λ r. ⌜ loadSays r ≡ loadAnswer (now (sheet .entry)) records (columns (now (e .entry)) (now (g .entry)) (now (l .entry))
+            (now (a .entry)) (now (b .entry)) (now (k .entry)) (now (ks .entry)) (now (h .entry)) (now (m .entry)) (now (s .entry)) (now (cl .entry))
+            (now (cb .entry)) (now (kd .entry)) (now (start .entry))) ⌝ }
+        ensures lists { λ r. ⌜ columns (now (e .exit)) (now (g .exit)) (now (l .exit)) (now (a .exit)) (now (b .exit)) (now (k .exit))
+            (now (ks .exit)) (now (h .exit)) (now (m .exit)) (now (s .exit)) (now (cl .exit)) (now (cb .exit)) (now (kd .exit)) (now (start .exit))
+            ≡ loadColumns (now (sheet .entry)) records (columns (now (e .entry)) (now (g .entry)) (now (l .entry)) (now (a .entry)) (now (b .entry))
+            (now (k .entry)) (now (ks .entry)) (now (h .entry)) (now (m .entry)) (now (s .entry)) (now (cl .entry)) (now (cb .entry))
+            (now (kd .entry)) (now (start .entry))) ⌝ }
     {
         let found = judge(
             sheet,

@@ -36,9 +36,17 @@ pub fn load(
     kd: &mut [u32],
     start: &mut [u32],
 ) -> Load
-    ensures answer { λ r. ⌜ loadSays r ≡ loadAnswer (now (sheet .entry)) (length (now (reaches .entry))) (columns (now (e .entry)) (now (g .entry)) (now (l .entry)) (now (a .entry)) (now (b .entry)) (now (k .entry)) (now (ks .entry)) (now (h .entry)) (now (m .entry)) (now (s .entry)) (now (cl .entry)) (now (cb .entry)) (now (kd .entry)) (now (start .entry))) ⌝ }
-    ensures lists { λ r. ⌜ columns (now (e .exit)) (now (g .exit)) (now (l .exit)) (now (a .exit)) (now (b .exit)) (now (k .exit)) (now (ks .exit)) (now (h .exit)) (now (m .exit)) (now (s .exit)) (now (cl .exit)) (now (cb .exit)) (now (kd .exit)) (now (start .exit)) ≡ loadColumns (now (sheet .entry)) (length (now (reaches .entry))) (columns (now (e .entry)) (now (g .entry)) (now (l .entry)) (now (a .entry)) (now (b .entry)) (now (k .entry)) (now (ks .entry)) (now (h .entry)) (now (m .entry)) (now (s .entry)) (now (cl .entry)) (now (cb .entry)) (now (kd .entry)) (now (start .entry))) ⌝ }
-    ensures records { λ r. ⌜ map reachSays (now (reaches .exit)) ≡ loadRecords (now (sheet .entry)) (map reachSays (now (reaches .entry))) (columns (now (e .entry)) (now (g .entry)) (now (l .entry)) (now (a .entry)) (now (b .entry)) (now (k .entry)) (now (ks .entry)) (now (h .entry)) (now (m .entry)) (now (s .entry)) (now (cl .entry)) (now (cb .entry)) (now (kd .entry)) (now (start .entry))) ⌝ }
+    ensures answer { λ r. ⌜ loadSays r ≡ loadAnswer (now (sheet .entry)) (length (now (reaches .entry))) (columns (now (e .entry)) (now (g .entry))
+        (now (l .entry)) (now (a .entry)) (now (b .entry)) (now (k .entry)) (now (ks .entry)) (now (h .entry)) (now (m .entry)) (now (s .entry))
+        (now (cl .entry)) (now (cb .entry)) (now (kd .entry)) (now (start .entry))) ⌝ }
+    ensures lists { λ r. ⌜ columns (now (e .exit)) (now (g .exit)) (now (l .exit)) (now (a .exit)) (now (b .exit)) (now (k .exit)) (now (ks .exit))
+        (now (h .exit)) (now (m .exit)) (now (s .exit)) (now (cl .exit)) (now (cb .exit)) (now (kd .exit)) (now (start .exit)) ≡ loadColumns
+        (now (sheet .entry)) (length (now (reaches .entry))) (columns (now (e .entry)) (now (g .entry)) (now (l .entry)) (now (a .entry))
+        (now (b .entry)) (now (k .entry)) (now (ks .entry)) (now (h .entry)) (now (m .entry)) (now (s .entry)) (now (cl .entry)) (now (cb .entry))
+        (now (kd .entry)) (now (start .entry))) ⌝ }
+    ensures records { λ r. ⌜ map reachSays (now (reaches .exit)) ≡ loadRecords (now (sheet .entry)) (map reachSays (now (reaches .entry))) (columns
+        (now (e .entry)) (now (g .entry)) (now (l .entry)) (now (a .entry)) (now (b .entry)) (now (k .entry)) (now (ks .entry)) (now (h .entry))
+        (now (m .entry)) (now (s .entry)) (now (cl .entry)) (now (cb .entry)) (now (kd .entry)) (now (start .entry))) ⌝ }
 {
     let answer = Loaded::load(
         sheet,
@@ -80,9 +88,17 @@ pub fn load_lists(
     kd: &mut [u32],
     start: &mut [u32],
 ) -> Load
-    ensures answer { λ r. ⌜ loadSays r ≡ loadAnswer (now (sheet .entry)) 64 (columns (now (e .entry)) (now (g .entry)) (now (l .entry)) (now (a .entry)) (now (b .entry)) (now (k .entry)) (now (ks .entry)) (now (h .entry)) (now (m .entry)) (now (s .entry)) (now (cl .entry)) (now (cb .entry)) (now (kd .entry)) (now (start .entry))) ⌝ }
-    ensures lists { λ r. ⌜ columns (now (e .exit)) (now (g .exit)) (now (l .exit)) (now (a .exit)) (now (b .exit)) (now (k .exit)) (now (ks .exit)) (now (h .exit)) (now (m .exit)) (now (s .exit)) (now (cl .exit)) (now (cb .exit)) (now (kd .exit)) (now (start .exit)) ≡ loadColumns (now (sheet .entry)) 64 (columns (now (e .entry)) (now (g .entry)) (now (l .entry)) (now (a .entry)) (now (b .entry)) (now (k .entry)) (now (ks .entry)) (now (h .entry)) (now (m .entry)) (now (s .entry)) (now (cl .entry)) (now (cb .entry)) (now (kd .entry)) (now (start .entry))) ⌝ }
-    ensures room { λ r. ⌜ ((records : ℕ) → 64 ≤ records → loadSays r ≡ loadAnswer (now (sheet .entry)) records (columns (now (e .entry)) (now (g .entry)) (now (l .entry)) (now (a .entry)) (now (b .entry)) (now (k .entry)) (now (ks .entry)) (now (h .entry)) (now (m .entry)) (now (s .entry)) (now (cl .entry)) (now (cb .entry)) (now (kd .entry)) (now (start .entry)))) ⌝ }
+    ensures answer { λ r. ⌜ loadSays r ≡ loadAnswer (now (sheet .entry)) 64 (columns (now (e .entry)) (now (g .entry)) (now (l .entry))
+        (now (a .entry)) (now (b .entry)) (now (k .entry)) (now (ks .entry)) (now (h .entry)) (now (m .entry)) (now (s .entry)) (now (cl .entry))
+        (now (cb .entry)) (now (kd .entry)) (now (start .entry))) ⌝ }
+    ensures lists { λ r. ⌜ columns (now (e .exit)) (now (g .exit)) (now (l .exit)) (now (a .exit)) (now (b .exit)) (now (k .exit)) (now (ks .exit))
+        (now (h .exit)) (now (m .exit)) (now (s .exit)) (now (cl .exit)) (now (cb .exit)) (now (kd .exit)) (now (start .exit)) ≡ loadColumns
+        (now (sheet .entry)) 64 (columns (now (e .entry)) (now (g .entry)) (now (l .entry)) (now (a .entry)) (now (b .entry)) (now (k .entry))
+        (now (ks .entry)) (now (h .entry)) (now (m .entry)) (now (s .entry)) (now (cl .entry)) (now (cb .entry)) (now (kd .entry))
+        (now (start .entry))) ⌝ }
+    ensures room { λ r. ⌜ ((records : ℕ) → 64 ≤ records → loadSays r ≡ loadAnswer (now (sheet .entry)) records (columns (now (e .entry))
+        (now (g .entry)) (now (l .entry)) (now (a .entry)) (now (b .entry)) (now (k .entry)) (now (ks .entry)) (now (h .entry)) (now (m .entry))
+        (now (s .entry)) (now (cl .entry)) (now (cb .entry)) (now (kd .entry)) (now (start .entry)))) ⌝ }
 {
     let mut reaches = [Reach {
         segments: 0,

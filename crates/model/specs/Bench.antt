@@ -2,7 +2,7 @@
 -- document 01 prints; proofs/Bench shows of the whole table at once that they are the same.
 use mathlib.Core.Path.{_≡_}
 use mathlib.Core.List.{List, [], _∷_, _++_}
-use Prim.Native.Nat.{ℕ, zero, suc, _+_, _-_, _*_, _/_, _%_, _^_}
+use Prim.Native.Nat.{ℕ, zero, suc, _+_, _-_, _/_, _%_, _^_}
 use lib.ListN.{getD, replicate}
 use Rattle.rounding.specs.Nearest.{S, parts}
 use Rattle.model.specs.Sheet.{mark, reachOf}
@@ -17,6 +17,7 @@ use Rattle.model.specs.Calls.{Working, startState, stepState, stepWorkin
 unfoldable pub bytes : ℕ → List ℕ
 bytes n = n % 256 ∷ n / 256 % 256 ∷ n / 65536 % 256 ∷ n / 16777216 % 256 ∷ []
 
+-- the bytes of fields, one after another
 unfoldable pub allBytes : List ℕ → List ℕ
 allBytes [] = []
 allBytes (n ∷ ns) = bytes n ++ allBytes ns
@@ -37,9 +38,11 @@ zeros n =
     let x : List ℕ = replicate n 0 in
     record { e = x; g = x; l = x; a = x; b = x; k = x; ks = x; h = x; m = x; s = x; cl = x; cb = x; kd = x; start = x }
 
+-- a state of n zeros to lend
 unfoldable pub noState : ℕ → State
 noState n = let x : List ℕ = replicate n 0 in record { channel = x; storage = x; sediment = x; upstream = 0; steps = 0 }
 
+-- and working lists
 unfoldable pub noWork : ℕ → Working
 noWork n = record { p = replicate n 0; y = replicate n 0 }
 
@@ -60,14 +63,17 @@ slope = record { dt = 1; dx = 1000; top = 1000; river = replicate 3 (reachOf (λ
 unfoldable pub brook2 : Columns
 brook2 = loadColumns (brook 1 0 2 3000) 1 (zeros 2)
 
+-- its start, with U 3,000
 unfoldable pub started2 : State
 started2 = startState 2 brook2 (noState 2) 3000
 
+-- a line of the table: its number, what the definitions give and what document 01 prints
 pub record Line : Type 0 where
   pub number : ℕ
   pub given : List ℕ
   pub printed : List ℕ
 
+-- T1 to T11
 unfoldable pub bench : List Line
 bench =
     -- "the fraction 1/3", "1/2^31", "0"
@@ -97,6 +103,7 @@ listed =
     1 ∷ 0 ∷ 3000 ∷
     1 ∷ 1 ∷ [])
 
+-- its loading
 unfoldable pub listedColumns : Columns
 listedColumns = loadColumns listed 1 (zeros 1)
 

@@ -1,15 +1,15 @@
 -- Start, step and report: their tests 13 to 15, their answers, and the later content of the lists that they are lent.
-use mathlib.Core.Bool.{Bool, true, false, not, _&&_, _||_}
+use mathlib.Core.Bool.{Bool, not, _&&_, _||_}
 use mathlib.Core.List.{List, [], _∷_, _++_, map}
 use Prim.Native.Nat.{ℕ, suc, _+_, _-_, _*_}
 use lib.Dec.{eqb, ltb, leb}
 use Rattle.lists.specs.Lists.{over, anyShorter}
-use Rattle.model.specs.Ranges.{_to_, outside, concentration, highest, mostKd, mostSteps, mostSegments}
-use Rattle.model.specs.HalfStep.{Numbers, Segment}
+use Rattle.model.specs.Ranges.{_to_, outside, concentration, mostKd, mostSteps, mostSegments}
+use Rattle.model.specs.HalfStep.{Segment}
 use Rattle.model.specs.Equations.{Figures}
-use Rattle.model.specs.Sweep.{Passed, downward, stepped}
+use Rattle.model.specs.Sweep.{downward, stepped}
 use Rattle.model.specs.State.{Columns, columnLists, segmentAt, segmentsOf, State, stateLists, figuresAt, figuresOf, writeFigures}
-use Rattle.model.specs.Refusals.{segment, Outcome, accepted, refused, isAccepted, Finding, test, testEach, judge}
+use Rattle.model.specs.Refusals.{segment, Outcome, accepted, refused, Finding, test, testEach, judge}
 use Rattle.model.specs.Load.{sumFault}
 
 -- 13. "A lent list is shorter than the river .., or the river has no segment or over 1,024"
@@ -54,12 +54,15 @@ startTests n columns state u =
     test 14 (outside concentration u) ∷
     []
 
+-- the answer
 unfoldable pub startAnswer : (n : ℕ) → Columns → State → (u : ℕ) → Outcome River
 startAnswer n columns state u = judge (startTests n columns state u) (record { upstream = u; steps = 0 })
 
+-- "C, Z and W to the start figure"
 abbrev pub startFigures : Segment → Figures
 startFigures x = record { c = x .start; z = x .start; w = x .start }
 
+-- what a start with this answer leaves: "Only an accepted call writes, and only the first entries it needs."
 abbrev pub stateAfterStart : Outcome River → (n : ℕ) → Columns → State → State
 stateAfterStart (accepted v) n columns state = writeFigures (map startFigures (segmentsOf n columns)) (v .upstream) (v .steps) state
 stateAfterStart (refused number place) n columns state = state
@@ -89,6 +92,7 @@ unfoldable pub stepAnswer : (n : ℕ) → Columns → State → Working → (u�
 stepAnswer n columns state working u′ M =
     judge (stepTests n columns state working u′ M) (record { upstream = u′; steps = suc (state .steps) })
 
+-- what a step with this answer leaves
 abbrev pub stateAfterStep : Outcome River → (n : ℕ) → Columns → State → State
 stateAfterStep (accepted v) n columns state =
     writeFigures (stepped (state .upstream) (v .upstream) (segmentsOf n columns) (figuresOf n state)) (v .upstream) (v .steps) state
@@ -105,11 +109,13 @@ workingAfterStep (accepted v) n columns state working =
     record { p = over (map (λ x. x .p) passed) (working .p); y = over (map (λ x. x .y) passed) (working .y) }
 workingAfterStep (refused number place) n columns state working = working
 
+-- and with its own answer
 unfoldable pub stepWorking : (n : ℕ) → Columns → State → Working → (u′ M : ℕ) → Working
 stepWorking n columns state working u′ M = workingAfterStep (stepAnswer n columns state working u′ M) n columns state working
 
 -- ---- a report: "a segment, for which it gives C, Z and Kd × W"; segments count from 1
 
+-- "C, Z and Kd × W"
 pub record Reported : Type 0 where
   pub channel : ℕ
   pub storage : ℕ
@@ -123,6 +129,7 @@ reportTests n columns state number =
     test 14 (heldFault state) ∷
     []
 
+-- those of the segment at i, which counts from 0
 unfoldable pub reported : Columns → State → ℕ → Reported
 reported columns state i =
     let f = figuresAt state i in

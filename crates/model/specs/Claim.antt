@@ -1,18 +1,19 @@
 -- Demand 3, "one claim about the whole list and not one for each call".
 use mathlib.Core.Path.{_≡_}
 use mathlib.Core.List.{List, [], _∷_}
-use Prim.Native.Nat.{ℕ, _-_, _*_}
+use Prim.Native.Nat.{ℕ, _-_, _*_, _≤_}
 use lib.Dec.{T}
 use lib.ListN.{length}
-use Rattle.fractions.specs.Fractions.{Fraction, Same, Within, _·_}
+use Rattle.fractions.specs.Fractions.{Same, Within, _·_}
 use Rattle.model.specs.Sheet.{Reach, segmentCount}
-use Rattle.model.specs.HalfStep.{Segment}
+use Rattle.model.specs.Flow.{courseOf}
+use Rattle.model.specs.HalfStep.{Segment, loadedSegment}
 use Rattle.model.specs.Equations.{Figures}
 use Rattle.model.specs.ExactRiver.{ExactFigures}
-use Rattle.model.specs.State.{Columns, loadedSegments, State, figuresOf}
-use Rattle.model.specs.Refusals.{Outcome, accepted}
+use Rattle.model.specs.State.{Columns, loadedSegments, State, figuresAt, figuresOf}
+use Rattle.model.specs.Refusals.{accepted}
 use Rattle.model.specs.Load.{Loaded, loadAnswer, loadColumns}
-use Rattle.model.specs.Calls.{Reported, reportAnswer, reported}
+use Rattle.model.specs.Calls.{Reported, reportAnswer}
 use Rattle.model.specs.Runs.{Lent, Call, start, accepts, run, AsLoaded, Fed, events, Exact, noRiver, ExactRun}
 
 -- two lists "hold the same figures", segment by segment
@@ -35,6 +36,14 @@ pub data Near (k : ℕ) : List Segment → List Figures → List ExactFigures �
       Within k (f .c) (q .c) → Within k (f .z) (q .z) → Within (k * x .kd) (x .kd * f .w) (x .kd · q .w) →
       Near k xs fs qs → Near k (x ∷ xs) (f ∷ fs) (q ∷ qs)
 
+-- "these figures of the state": C, Z and Kd × W of the segment with this number, which is one of the river's
+pub record FiguresOf (sheet : List ℕ) (state : State) (number : ℕ) (v : Reported) : Type 0 where
+  pub first : 1 ≤ number
+  pub last : number ≤ segmentCount sheet
+  pub channel : v .channel ≡ figuresAt state (number - 1) .c
+  pub storage : v .storage ≡ figuresAt state (number - 1) .z
+  pub sediment : v .sediment ≡ loadedSegment (courseOf sheet) (number - 1) .kd * figuresAt state (number - 1) .w
+
 -- after a list of calls from a state, on a river of this sheet
 pub record Holds (sheet : List ℕ) (before : State) (calls : List Call) : Type 0 where
   -- "Such fractions always exist"
@@ -51,7 +60,7 @@ pub record Holds (sheet : List ℕ) (before : State) (calls : List Call) : Type 
   -- "an accepted report made then gives these figures of the state"
   pub reports : (lent : Lent) (number : ℕ) (v : Reported) → AsLoaded sheet lent →
       reportAnswer (lent .count) (lent .columns) (run before calls) number ≡ accepted v →
-      v ≡ reported (lent .columns) (run before calls) (number - 1)
+      FiguresOf sheet (run before calls) number v
 
 -- "A run is one accepted loading, one accepted start into lists of any content, then any list of starts, steps and reports, refused
 -- ones included." The loading is lent a list of reach records and the fourteen lists.

@@ -1,11 +1,12 @@
 -- Document 01, "The equations" and "The run and its exact river": the three equations in fractions, as a relation.
 use mathlib.Core.List.{List, [], _∷_}
-use Prim.Native.Nat.{ℕ, _+_, _-_, _*_}
+use Prim.Native.Nat.{_+_, _-_, _*_}
 use Rattle.fractions.specs.Fractions.{Fraction, Same, whole, _⊕_, _⊖_, _·_}
 use Rattle.rounding.specs.Nearest.{S}
 use Rattle.model.specs.HalfStep.{Segment}
 use Rattle.model.specs.Equations.{sumT, sumV}
 
+-- C, Z and W of a segment, as fractions
 pub record ExactFigures : Type 0 where
   pub c : Fraction
   pub z : Fraction

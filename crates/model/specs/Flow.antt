@@ -13,6 +13,7 @@ pub record Course : Type 0 where
   pub top : ℕ
   pub river : List Reach
 
+-- that of a sheet
 unfoldable pub courseOf : List ℕ → Course
 courseOf sheet = record { dt = dt sheet; dx = dx sheet; top = topFlow sheet; river = alongRiver (reaches sheet) }
 
@@ -35,5 +36,6 @@ abbrev pub natural : ℤ → ℕ
 natural (pos n) = n
 natural (negsuc n) = 0
 
+-- Q of segment i
 unfoldable pub discharge : Course → ℕ → ℕ
 discharge course i = natural (flow course i)

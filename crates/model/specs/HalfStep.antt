@@ -1,13 +1,12 @@
 -- Document 01, "Flow and half-step numbers": the ten numbers of a segment, each "its fraction times one whole, to the nearest".
 use mathlib.Core.Bool.{Bool, cond}
-use mathlib.Core.List.{List}
 use Prim.Native.Nat.{ℕ, zero, suc, _+_, _-_, _*_, _^_}
 use lib.Dec.{eqb}
 use lib.ListN.{length}
 use Rattle.rounding.specs.Nearest.{parts}
-use Rattle.model.specs.Sheet.{Reach}
 use Rattle.model.specs.Flow.{Course, reachAt, discharge}
 
+-- the ten half-step numbers of a segment
 pub record Numbers : Type 0 where
   pub e : ℕ
   pub g : ℕ
@@ -33,6 +32,7 @@ unfoldable pub adAbove : Course → ℕ → ℕ
 adAbove course zero = ad course zero
 adAbove course (suc i) = ad course i
 
+-- "below the last, its own is used"; elsewhere that of the segment below
 unfoldable pub adBelow : Course → ℕ → ℕ
 adBelow course i = cond (isLast course i) (ad course i) (ad course (suc i))
 
@@ -79,6 +79,7 @@ pub record Segment : Type 0 where
   pub kd : ℕ
   pub start : ℕ
 
+-- segment i of a course
 unfoldable pub loadedSegment : Course → ℕ → Segment
 loadedSegment course i =
     let r = reachAt course i in

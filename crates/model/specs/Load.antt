@@ -1,20 +1,20 @@
 -- A loading: tests 1 to 13, its answer, and the later content of the lists that it is lent.
-use mathlib.Core.Bool.{Bool, true, false, not, cond, _||_}
+use mathlib.Core.Bool.{Bool, not, cond, _||_}
 use mathlib.Core.List.{List, [], _∷_, _++_}
 use Prim.Native.Nat.{ℕ, zero, suc, _+_, _*_}
-use lib.Dec.{eqb, ltb, leb}
+use lib.Dec.{eqb, ltb}
 use lib.IntN.{pos}
 use lib.ListN.{length, getD}
 use lib.Signed.{ltZ}
 use Rattle.lists.specs.Lists.{over, anyShorter, notRising}
 use Rattle.rounding.specs.Nearest.{S}
-use Rattle.model.specs.Ranges.{Range, _to_, Section, sections, outside, anyOutside, headerRanges, reachRanges, concentration, flows, mostSegments}
+use Rattle.model.specs.Ranges.{_to_, Section, sections, outside, anyOutside, headerRanges, reachRanges, concentration, flows, mostSegments}
 use Rattle.model.specs.Sheet.{mark, startsWith, field, header, stepsM, interval, sectionEnd, reachCountAt, sheetEnd, rowsAt, gaugesAt, reachCount, rowCount, gaugeCount, Reach, reachFields, reaches, rowStarts, rowConcentrations, gauges, segmentCount}
 use Rattle.model.specs.Flow.{Course, courseOf, flow, discharge}
 use Rattle.model.specs.HalfStep.{Numbers, ad, adBelow, numbers}
 use Rattle.model.specs.Equations.{sumT, sumV}
 use Rattle.model.specs.State.{Columns, columnLists, loadedSegments, writeSegments}
-use Rattle.model.specs.Refusals.{Place, nothing, reach, segment, row, Outcome, accepted, refused, Finding, passes, fails, test, testEach, judge}
+use Rattle.model.specs.Refusals.{nothing, reach, segment, row, Outcome, accepted, refused, Finding, passes, fails, test, testEach, judge}
 
 -- 1. "Fewer than four bytes, or another mark."
 unfoldable pub unmarked : List ℕ → Bool
@@ -35,6 +35,7 @@ unfoldable pub startsLate : List ℕ → ℕ → Bool
 startsLate starts zero = not (eqb (getD starts 0 0) 0)
 startsLate starts (suc j) = notRising starts (suc j)
 
+-- and the whole of 8, of row j
 unfoldable pub rowFault : (M : ℕ) → (starts concentrations : List ℕ) → ℕ → Bool
 rowFault M starts concentrations j =
     startsLate starts j || ltb M (getD starts j 0) || outside concentration (getD concentrations j 0)
@@ -97,6 +98,7 @@ pub record Loaded : Type 0 where
   pub gaugesAt : ℕ
   pub gauges : ℕ
 
+-- those of a sheet
 unfoldable pub loaded : List ℕ → Loaded
 loaded sheet = record {
   steps = stepsM sheet;
@@ -117,6 +119,7 @@ abbrev pub columnsAfter : Outcome Loaded → List ℕ → Columns → Columns
 columnsAfter (accepted v) sheet before = writeSegments (loadedSegments sheet) before
 columnsAfter (refused number place) sheet before = before
 
+-- and with its own answer
 unfoldable pub loadColumns : List ℕ → (records : ℕ) → Columns → Columns
 loadColumns sheet records before = columnsAfter (loadAnswer sheet records before) sheet before
 
@@ -125,5 +128,6 @@ abbrev pub recordsAfter : Outcome Loaded → List ℕ → List Reach → List Re
 recordsAfter (accepted v) sheet before = over (reaches sheet) before
 recordsAfter (refused number place) sheet before = before
 
+-- and with its own answer
 unfoldable pub loadRecords : List ℕ → List Reach → Columns → List Reach
 loadRecords sheet before columns = recordsAfter (loadAnswer sheet (length before) columns) sheet before

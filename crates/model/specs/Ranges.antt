@@ -1,13 +1,15 @@
 -- Document 01, "The river sheet": the range of every field and count, and the limits of the calls, each written once.
-use mathlib.Core.Bool.{Bool, true, false, _||_}
+use mathlib.Core.Bool.{Bool, false, _||_}
 use mathlib.Core.List.{List, [], _∷_}
 use Prim.Native.Nat.{ℕ}
 use lib.Dec.{ltb}
 
+-- a range: its lowest and its highest value
 pub record Range : Type 0 where
   pub low : ℕ
   pub high : ℕ
 
+-- as document 01 writes it: "1 to 3,600"
 infix 5 _to_
 abbrev pub _to_ : ℕ → ℕ → Range
 low to high = record { low = low; high = high }
@@ -26,6 +28,7 @@ anyOutside (range ∷ ranges) (field ∷ fields) = outside range field || anyOut
 abbrev pub highest : ℕ
 highest = 1000000000
 
+-- and their range
 abbrev pub concentration : Range
 concentration = 0 to highest
 

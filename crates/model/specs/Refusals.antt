@@ -17,6 +17,7 @@ pub data Outcome (A : Type 0) : Type 0 where
   accepted : A → Outcome A
   refused : ℕ → Place → Outcome A
 
+-- the call was accepted
 abbrev pub isAccepted : {A : Type 0} → Outcome A → Bool
 isAccepted (accepted v) = true
 isAccepted (refused number place) = false
@@ -45,5 +46,6 @@ abbrev pub answer : {A : Type 0} → Finding → A → Outcome A
 answer passes v = accepted v
 answer (fails number place) v = refused number place
 
+-- the outcome of a call with these tests, which has these values where all of them pass
 abbrev pub judge : {A : Type 0} → List Finding → A → Outcome A
 judge tests v = answer (first tests) v

@@ -23,6 +23,7 @@ pub data Call : Type 0 where
   step : Lent → Working → (u′ M : ℕ) → Call
   report : Lent → (number : ℕ) → Call
 
+-- what a call was lent
 abbrev pub lentTo : Call → Lent
 lentTo (start lent u) = lent
 lentTo (step lent working u′ M) = lent
@@ -63,12 +64,14 @@ pub data Event : Type 0 where
   moved : (u′ : ℕ) → Event
   still : Event
 
+-- the event of a call, by whether it was accepted
 abbrev pub event : Bool → Call → Event
 event false call = still
 event true (start lent u) = started u
 event true (step lent working u′ M) = moved u′
 event true (report lent number) = still
 
+-- those of a list of calls from a state
 unfoldable pub events : State → List Call → List Event
 events state [] = []
 events state (call ∷ calls) = event (accepts state call) call ∷ events (after state call) calls

@@ -1,10 +1,10 @@
 -- Document 01, "The river sheet": where each field stands on a sheet marked OTR1, and what is read there.
 -- A sheet is its list of bytes. Reaches, rows and gauges count from 1 in document 01 and from 0 here; places count from 1.
-use mathlib.Core.Bool.{Bool, true, false, not, _&&_}
+use mathlib.Core.Bool.{Bool, true, false, _&&_}
 use mathlib.Core.List.{List, [], _∷_, _++_}
-use Prim.Native.Nat.{ℕ, zero, suc, _+_, _*_}
-use lib.Dec.{eqb, leb}
-use lib.ListN.{getD, replicate, length}
+use Prim.Native.Nat.{ℕ, _+_, _*_}
+use lib.Dec.{eqb}
+use lib.ListN.{getD, replicate}
 use Rattle.lists.specs.Lists.{tab}
 use Rattle.model.specs.Ranges.{Section, reachSection, rowSection, gaugeSection}
 
@@ -26,12 +26,15 @@ field sheet at = getD sheet at 0 + 256 * getD sheet (at + 1) 0 + 65536 * getD sh
 unfoldable pub headerField : List ℕ → ℕ → ℕ
 headerField sheet k = field sheet (4 + 4 * k)
 
+-- its fields, in order: "step dt .., segment length dx .., steps M .., print interval .., flow at the top"
 abbrev pub headerWidth : ℕ
 headerWidth = 5
 
+-- dt
 abbrev pub dt : List ℕ → ℕ
 dt sheet = headerField sheet 0
 
+-- dx
 abbrev pub dx : List ℕ → ℕ
 dx sheet = headerField sheet 1
 
@@ -39,12 +42,15 @@ dx sheet = headerField sheet 1
 abbrev pub stepsM : List ℕ → ℕ
 stepsM sheet = headerField sheet 2
 
+-- the print interval
 abbrev pub interval : List ℕ → ℕ
 interval sheet = headerField sheet 3
 
+-- the flow at the top
 abbrev pub topFlow : List ℕ → ℕ
 topFlow sheet = headerField sheet 4
 
+-- the five of them
 abbrev pub header : List ℕ → List ℕ
 header sheet = tab 0 headerWidth (headerField sheet)
 
@@ -56,9 +62,11 @@ sectionEnd sheet at section = at + 4 + 4 * (section .width * field sheet at)
 abbrev pub reachCountAt : ℕ
 reachCountAt = 4 + 4 * headerWidth
 
+-- that of boundary rows
 unfoldable pub rowCountAt : List ℕ → ℕ
 rowCountAt sheet = sectionEnd sheet reachCountAt reachSection
 
+-- that of gauges
 unfoldable pub gaugeCountAt : List ℕ → ℕ
 gaugeCountAt sheet = sectionEnd sheet (rowCountAt sheet) rowSection
 
@@ -66,12 +74,15 @@ gaugeCountAt sheet = sectionEnd sheet (rowCountAt sheet) rowSection
 unfoldable pub sheetEnd : List ℕ → ℕ
 sheetEnd sheet = sectionEnd sheet (gaugeCountAt sheet) gaugeSection
 
+-- "Count of reaches"
 abbrev pub reachCount : List ℕ → ℕ
 reachCount sheet = field sheet reachCountAt
 
+-- "Count of boundary rows"
 abbrev pub rowCount : List ℕ → ℕ
 rowCount sheet = field sheet (rowCountAt sheet)
 
+-- "Count of gauges"
 abbrev pub gaugeCount : List ℕ → ℕ
 gaugeCount sheet = field sheet (gaugeCountAt sheet)
 
@@ -79,6 +90,7 @@ gaugeCount sheet = field sheet (gaugeCountAt sheet)
 abbrev pub rowsAt : List ℕ → ℕ
 rowsAt sheet = rowCountAt sheet + 4
 
+-- and the gauges
 abbrev pub gaugesAt : List ℕ → ℕ
 gaugesAt sheet = gaugeCountAt sheet + 4
 
@@ -105,6 +117,7 @@ pub record Reach : Type 0 where
   pub cb : ℕ
   pub start : ℕ
 
+-- the sixteen fields of reach i, which counts from 0
 unfoldable pub reachFields : List ℕ → ℕ → List ℕ
 reachFields sheet i = tab 0 (reachSection .width) (recordField sheet reachCountAt reachSection i)
 
@@ -129,6 +142,7 @@ reachOf f = record {
   start = f 15;
 }
 
+-- reach i of a sheet
 unfoldable pub reachOn : List ℕ → ℕ → Reach
 reachOn sheet i = reachOf (recordField sheet reachCountAt reachSection i)
 
@@ -140,6 +154,7 @@ reaches sheet = tab 0 (reachCount sheet) (reachOn sheet)
 unfoldable pub rowStarts : List ℕ → List ℕ
 rowStarts sheet = tab 0 (rowCount sheet) (λ j. recordField sheet (rowCountAt sheet) rowSection j 0)
 
+-- and their concentrations
 unfoldable pub rowConcentrations : List ℕ → List ℕ
 rowConcentrations sheet = tab 0 (rowCount sheet) (λ j. recordField sheet (rowCountAt sheet) rowSection j 1)
 
@@ -152,6 +167,7 @@ unfoldable pub totalSegments : List Reach → ℕ
 totalSegments [] = 0
 totalSegments (r ∷ rs) = r .segments + totalSegments rs
 
+-- the river's segments
 unfoldable pub segmentCount : List ℕ → ℕ
 segmentCount sheet = totalSegments (reaches sheet)
 

@@ -86,9 +86,11 @@ pub record State : Type 0 where
   pub upstream : ℕ
   pub steps : ℕ
 
+-- its three lists, for the test of their lengths
 abbrev pub stateLists : State → List (List ℕ)
 stateLists x = x .channel ∷ x .storage ∷ x .sediment ∷ []
 
+-- entry i of each list
 unfoldable pub figuresAt : State → ℕ → Figures
 figuresAt x i = record { c = getD (x .channel) i 0; z = getD (x .storage) i 0; w = getD (x .sediment) i 0 }
 

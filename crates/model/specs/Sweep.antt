@@ -4,7 +4,7 @@ use Prim.Native.Nat.{ℕ, _+_, _-_, _*_, min}
 use Rattle.rounding.specs.Nearest.{S, nearest}
 use Rattle.model.specs.Ranges.{highest}
 use Rattle.model.specs.HalfStep.{Numbers, Segment}
-use Rattle.model.specs.Equations.{Figures, sumT, sumV, channelRight, storageRight, sedimentRight}
+use Rattle.model.specs.Equations.{Figures, sumV, channelRight, storageRight, sedimentRight}
 
 -- "P = ((S−V)Z + bC + 2mCB)/(S+V)"
 unfoldable pub P : Numbers → (cb : ℕ) → Figures → ℕ
@@ -35,6 +35,7 @@ abbrev pub below : List Figures → ℕ
 below [] = 0
 below (f ∷ fs) = f .c
 
+-- the row of a segment
 unfoldable pub rowOf : Segment → (above below : ℕ) → Figures → Row
 rowOf x above below f = record { F = F (x .numbers); e = x .numbers .e; g = x .numbers .g; R = R x above below f }
 
@@ -78,6 +79,7 @@ abbrev pub onTop : Passed → List ℕ → ℕ
 onTop d [] = d .y
 onTop d (x ∷ xs) = d .y + nearest (d .p * x) S
 
+-- the C' of all segments, before any is cut
 abbrev pub up : List Passed → List ℕ
 up [] = []
 up (d ∷ ds) = onTop d (up ds) ∷ up ds
@@ -90,6 +92,7 @@ clamp x = min x highest
 unfoldable pub newStorage : Numbers → (cb : ℕ) → Figures → (c′ : ℕ) → ℕ
 newStorage n cb f c′ = nearest (storageRight n cb f + n .b * c′) (S + sumV n)
 
+-- W'
 unfoldable pub newSediment : Numbers → Figures → (c′ : ℕ) → ℕ
 newSediment n f c′ = nearest (sedimentRight n f + n .h * c′) (S + n .h)
 

@@ -19,6 +19,7 @@ lastStarted j found (start ∷ starts) (c ∷ concentrations) = lastStarted j (c
 unfoldable pub upstreamAt : (j : ℕ) → (starts concentrations : List ℕ) → ℕ
 upstreamAt j starts concentrations = lastStarted j 0 starts concentrations
 
+-- "It tests their count (3, also for two lists of different length), then the rows (8)."
 unfoldable pub upstreamTests : (M : ℕ) → (starts concentrations : List ℕ) → List Finding
 upstreamTests M starts concentrations =
     test 3 (outside (rowSection .counts) (length starts) || not (eqb (length starts) (length concentrations))) ∷

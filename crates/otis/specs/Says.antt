@@ -3,7 +3,6 @@ use Rattle.model.specs.Refusals.{Outcome, accepted, refused}
 use Rattle.model.specs.Calls as Document
 use Rattle.terms.specs.Says.{placeSays}
 use Rattle.otis.specs.declared.River.{River}
-use Rattle.otis.specs.declared.Figures.{Figures}
 use Rattle.otis.specs.declared.Start.{Start}
 use Rattle.otis.specs.declared.Start.the-variants as Start
 use Rattle.otis.specs.declared.Step.{Step}

@@ -26,7 +26,12 @@ fn product(a: u32, b: u32) -> u64
 // The figures of the segment at i, which counts from 0.
 pub fn at(i: usize, kd: &[u32], channel: &[u32], storage: &[u32], sediment: &[u32]) -> Figures
     requires { ⌜ (i < length (now kd)) × (i < length (now channel)) × (i < length (now storage)) × (i < length (now sediment)) ⌝ }
-    ensures { λ r. ⌜ r ≡ record { channel = getD (now (channel .entry)) i 0; storage = getD (now (storage .entry)) i 0; sediment = getD (now (kd .entry)) i 0 * getD (now (sediment .entry)) i 0 } ⌝ }
+    ensures { λ r. ⌜ r ≡ record {
+      channel = getD (now (channel .entry)) i 0;
+      storage = getD (now (storage .entry)) i 0;
+      sediment = getD
+          (now (kd .entry)) i 0 * getD (now (sediment .entry)) i 0;
+    } ⌝ }
 {
     Figures {
         channel: channel[i],

@@ -1,9 +1,8 @@
 // Program river: reads a river sheet on standard input and prints its listing, or `refused` and the number of the refusal.
-ghost use Prim.Native.Nat.{_≤_};
-ghost use lib.ListN.{length};
 use boundary::Upstream;
 use boundary::rows::upstream;
 use libc::STDIN_FILENO;
+use libc::STDOUT_FILENO;
 use loader::Load;
 use loader::Loaded;
 use loading::load_lists;
@@ -12,17 +11,65 @@ use otis::Report;
 use otis::River;
 use otis::Start;
 use otis::Step;
-use output::flush;
-use output::put_number;
-use output::put_text;
-use output::room;
 use sheet::fields::gauge;
 use sheet::rows::copy_rows;
 
-mod output;
-
 // The longest sheet has 6,308 bytes; one byte more shows that bytes follow its last gauge.
 const LONGEST: usize = 6309;
+
+// The most segments and boundary rows that a sheet can have.
+const SEGMENTS: usize = 1024;
+
+const ROWS: usize = 256;
+
+// What is printed goes through a buffer, which is written out when the next line might not fit. A line has five numbers, the longest
+// of 13 digits, and the text beside a number is short.
+const LINE: usize = 128;
+
+// Writes the first `used` bytes.
+fn flush(out: &[u8], used: usize) {
+    if used <= out.len() {
+        io::write_all(STDOUT_FILENO, &out[..used]);
+    }
+}
+
+// The bytes used, after the buffer was written out if a line might not fit.
+fn room(out: &[u8], used: usize) -> usize {
+    if used <= out.len() {
+        if LINE <= out.len() - used {
+            return used;
+        }
+    }
+    flush(out, used);
+    0
+}
+
+fn put_byte(out: &mut [u8], used: usize, byte: u8) -> usize {
+    if used < out.len() {
+        out[used] = byte;
+        return used + 1;
+    }
+    used
+}
+
+// Puts the text behind the bytes used.
+fn put_text(out: &mut [u8], used: usize, text: &[u8]) -> usize {
+    let mut at = used;
+    let mut i: usize = 0;
+    while i < text.len() {
+        at = put_byte(&mut out[..], at, text[i]);
+        i += 1;
+    }
+    at
+}
+
+// Puts a number and the byte that ends it.
+fn put_number(out: &mut [u8], used: usize, number: u64, end: u8) -> usize {
+    let mut digits = [0u8; 20];
+    let count = io::decimal(number, &mut digits);
+    let at = put_text(&mut out[..], used, &digits[..count]);
+    put_byte(&mut out[..], at, end)
+}
 
 // A refused sheet prints only `refused` and its number.
 fn refused(number: u32) {
@@ -333,14 +380,14 @@ fn listing(
     kd: &[u32],
     start: &[u32],
 ) {
-    let mut starts = [0u32; 256];
-    let mut concentrations = [0u32; 256];
+    let mut starts = [0u32; ROWS];
+    let mut concentrations = [0u32; ROWS];
     copy_rows(sheet, &mut starts, &mut concentrations);
-    let mut channel = [0u32; 1024];
-    let mut storage = [0u32; 1024];
-    let mut sediment = [0u32; 1024];
-    let mut p = [0u64; 1024];
-    let mut y = [0u64; 1024];
+    let mut channel = [0u32; SEGMENTS];
+    let mut storage = [0u32; SEGMENTS];
+    let mut sediment = [0u32; SEGMENTS];
+    let mut p = [0u64; SEGMENTS];
+    let mut y = [0u64; SEGMENTS];
     let mut out = io::large_buffer();
     let u = upstream_at(
         &starts,
@@ -412,20 +459,20 @@ fn listing(
 
 // What river prints of these bytes.
 fn print(sheet: &[u8]) {
-    let mut e = [0u32; 1024];
-    let mut g = [0u32; 1024];
-    let mut l = [0u32; 1024];
-    let mut a = [0u32; 1024];
-    let mut b = [0u32; 1024];
-    let mut k = [0u32; 1024];
-    let mut ks = [0u32; 1024];
-    let mut h = [0u32; 1024];
-    let mut m = [0u32; 1024];
-    let mut s = [0u32; 1024];
-    let mut cl = [0u32; 1024];
-    let mut cb = [0u32; 1024];
-    let mut kd = [0u32; 1024];
-    let mut start = [0u32; 1024];
+    let mut e = [0u32; SEGMENTS];
+    let mut g = [0u32; SEGMENTS];
+    let mut l = [0u32; SEGMENTS];
+    let mut a = [0u32; SEGMENTS];
+    let mut b = [0u32; SEGMENTS];
+    let mut k = [0u32; SEGMENTS];
+    let mut ks = [0u32; SEGMENTS];
+    let mut h = [0u32; SEGMENTS];
+    let mut m = [0u32; SEGMENTS];
+    let mut s = [0u32; SEGMENTS];
+    let mut cl = [0u32; SEGMENTS];
+    let mut cb = [0u32; SEGMENTS];
+    let mut kd = [0u32; SEGMENTS];
+    let mut start = [0u32; SEGMENTS];
     let answer = load_lists(
         sheet,
         &mut e,

@@ -1,4 +1,5 @@
--- What the other crates know of `nearest` and `floorDiv`. Only this file and the proof of `rounded` unfold `nearest`.
+-- What the other crates know of `nearest` and `floorDiv`. Beside this file only the proof of `rounded` unfolds `nearest`, and, at
+-- literals, model/proofs/Bench and Clamp.
 use mathlib.Core.Path.{_≡_, refl}
 use Prim.Native.Nat.{ℕ, zero, suc, _+_, _-_, _*_, _/_, _^_, _<_, _≤_}
 use native.Mathlib.Nat.{mul-le-mul-left, lt-of-mul-lt-mul-left, mul-div-le, lt-mul-div-succ, le-div-iff-mul-le, div-eq-of-lt-le}

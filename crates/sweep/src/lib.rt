@@ -5,7 +5,7 @@ ghost use mathlib.Core.List.{List, []};
 ghost use Prim.Native.Nat.{ℕ, _≤_};
 ghost use lib.Dec.{ltb};
 ghost use lib.ListN.{length, getD};
-ghost use Rattle.model.specs.Sweep.{downward, stepped, finish, up, newFigures};
+ghost use Rattle.model.specs.Sweep.{downward, finish, up, newFigures};
 ghost use Rattle.model.specs.State.{segmentsOf, figuresOf};
 ghost use Rattle.sweep.specs.Step.{columnsOf, stateOf, workingOf, passedOf, Ready, UpReady, FiguresOver, PassedOver, Stepped};
 
@@ -42,8 +42,12 @@ fn downward(
     p: &mut [u64],
     y: &mut [u64],
 )
-    requires { ⌜ Ready n (columnsOf (now e) (now g) (now l) (now a) (now b) (now k) (now ks) (now h) (now m) (now s) (now cl) (now cb) [] []) (stateOf (now channel) (now storage) (now sediment) u 0) (workingOf (now p) (now y)) next ⌝ }
-    ensures { λ _. ⌜ PassedOver (downward u next (segmentsOf n (columnsOf (now (e .entry)) (now (g .entry)) (now (l .entry)) (now (a .entry)) (now (b .entry)) (now (k .entry)) (now (ks .entry)) (now (h .entry)) (now (m .entry)) (now (s .entry)) (now (cl .entry)) (now (cb .entry)) [] [])) (figuresOf n (stateOf (now (channel .entry)) (now (storage .entry)) (now (sediment .entry)) u 0))) (workingOf (now (p .entry)) (now (y .entry))) (now (p .exit)) (now (y .exit)) ⌝ }
+    requires { ⌜ Ready n (columnsOf (now e) (now g) (now l) (now a) (now b) (now k) (now ks) (now h) (now m) (now s) (now cl) (now cb) [] []) (stateOf
+        (now channel) (now storage) (now sediment) u 0) (workingOf (now p) (now y)) next ⌝ }
+    ensures { λ _. ⌜ PassedOver (downward u next (segmentsOf n (columnsOf (now (e .entry)) (now (g .entry)) (now (l .entry)) (now (a .entry))
+        (now (b .entry)) (now (k .entry)) (now (ks .entry)) (now (h .entry)) (now (m .entry)) (now (s .entry)) (now (cl .entry))
+        (now (cb .entry)) [] [])) (figuresOf n (stateOf (now (channel .entry)) (now (storage .entry)) (now (sediment .entry)) u 0))) (workingOf
+        (now (p .entry)) (now (y .entry))) (now (p .exit)) (now (y .exit)) ⌝ }
 {
     let mut above = u;
     let mut p_above: u64 = 0;
@@ -98,7 +102,11 @@ fn upward(
     sediment: &mut [u32],
 )
     requires { ⌜ UpReady n (now b) (now ks) (now h) (now m) (now cb) (stateOf (now channel) (now storage) (now sediment) 0 0) (workingOf (now p) (now y)) ⌝ }
-    ensures { λ _. ⌜ ((e g l a k s cl kd start : List ℕ) (u steps : ℕ) → FiguresOver (finish newFigures (segmentsOf n (columnsOf e g l a (now (b .entry)) k (now (ks .entry)) (now (h .entry)) (now (m .entry)) s cl (now (cb .entry)) kd start)) (figuresOf n (stateOf (now (channel .entry)) (now (storage .entry)) (now (sediment .entry)) u steps)) (up (passedOf n (workingOf (now (p .entry)) (now (y .entry)))))) (stateOf (now (channel .entry)) (now (storage .entry)) (now (sediment .entry)) u steps) (now (channel .exit)) (now (storage .exit)) (now (sediment .exit))) ⌝ }
+    ensures { λ _. ⌜ ((e g l a k s cl kd start : List ℕ) (u steps : ℕ) → FiguresOver (finish newFigures (segmentsOf n (columnsOf e g l a
+        (now (b .entry)) k (now (ks .entry)) (now (h .entry)) (now (m .entry)) s cl (now (cb .entry)) kd start)) (figuresOf n (stateOf
+        (now (channel .entry)) (now (storage .entry)) (now (sediment .entry)) u steps)) (up (passedOf n (workingOf (now (p .entry))
+        (now (y .entry)))))) (stateOf (now (channel .entry)) (now (storage .entry)) (now (sediment .entry)) u steps) (now (channel .exit))
+        (now (storage .exit)) (now (sediment .exit))) ⌝ }
 {
     let mut below: u64 = 0;
     let mut i = n;
@@ -145,8 +153,13 @@ pub fn step(
     p: &mut [u64],
     y: &mut [u64],
 )
-    requires { ⌜ Ready n (columnsOf (now e) (now g) (now l) (now a) (now b) (now k) (now ks) (now h) (now m) (now s) (now cl) (now cb) [] []) (stateOf (now channel) (now storage) (now sediment) u 0) (workingOf (now p) (now y)) next ⌝ }
-    ensures { λ _. ⌜ ((kd start : List ℕ) (steps : ℕ) → Stepped n (columnsOf (now (e .entry)) (now (g .entry)) (now (l .entry)) (now (a .entry)) (now (b .entry)) (now (k .entry)) (now (ks .entry)) (now (h .entry)) (now (m .entry)) (now (s .entry)) (now (cl .entry)) (now (cb .entry)) kd start) (stateOf (now (channel .entry)) (now (storage .entry)) (now (sediment .entry)) u steps) (workingOf (now (p .entry)) (now (y .entry))) next (now (channel .exit)) (now (storage .exit)) (now (sediment .exit)) (now (p .exit)) (now (y .exit))) ⌝ }
+    requires { ⌜ Ready n (columnsOf (now e) (now g) (now l) (now a) (now b) (now k) (now ks) (now h) (now m) (now s) (now cl) (now cb) [] []) (stateOf
+        (now channel) (now storage) (now sediment) u 0) (workingOf (now p) (now y)) next ⌝ }
+    ensures { λ _. ⌜ ((kd start : List ℕ) (steps : ℕ) → Stepped n (columnsOf (now (e .entry)) (now (g .entry)) (now (l .entry)) (now (a .entry))
+        (now (b .entry)) (now (k .entry)) (now (ks .entry)) (now (h .entry)) (now (m .entry)) (now (s .entry)) (now (cl .entry))
+        (now (cb .entry)) kd start) (stateOf (now (channel .entry)) (now (storage .entry)) (now (sediment .entry)) u steps) (workingOf
+        (now (p .entry)) (now (y .entry))) next (now (channel .exit)) (now (storage .exit)) (now (sediment .exit)) (now (p .exit))
+        (now (y .exit))) ⌝ }
 {
     downward(
         n,

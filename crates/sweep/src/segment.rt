@@ -1,6 +1,6 @@
 // One segment of a step, on numbers.
 ghost use mathlib.Core.Path.{_≡_};
-ghost use Prim.Native.Nat.{ℕ, _+_, _-_, _*_, _≤_};
+ghost use Prim.Native.Nat.{_+_, _-_, _*_, _≤_};
 ghost use Rattle.rounding.specs.Nearest.{S, nearest};
 ghost use Rattle.model.specs.Ranges.{highest};
 ghost use Rattle.model.specs.Sweep.{F, R, rowOf, under, pass, clamp, newStorage, newSediment, newFigures};

@@ -2,8 +2,8 @@
 use mathlib.Core.Path.{sym}
 use lib.Seq.{length-take-le}
 use borrow.Author.Needs.{needs}
-use Rattle.river.proofs.output.flush.Statement.{statement}
-use Rattle.river.proofs.output.flush.Tie as tie
+use Rattle.river.proofs.flush.Statement.{statement}
+use Rattle.river.proofs.flush.Tie as tie
 
 slice-aggregate-write-all : tie.Need-slice-aggregate-write-all
 slice-aggregate-write-all c = sym (length-take-le _ _ (search needs))

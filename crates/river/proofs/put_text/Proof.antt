@@ -4,8 +4,8 @@ use Prim.Native.Nat.{_-_, _≤_}
 use lib.ListN.{length}
 use native.Mathlib.Omega.{arith}
 use borrow.Author.Needs.{needs}
-use Rattle.river.proofs.output.put_text.Statement.{statement}
-use Rattle.river.proofs.output.put_text.Tie as tie
+use Rattle.river.proofs.put_text.Statement.{statement}
+use Rattle.river.proofs.put_text.Tie as tie
 
 abbrev Inv-loop : tie.InvT-loop
 Inv-loop out₀ used text at₀ i₀ out at i = (length out ≡ length out₀) × (i ≤ length text)

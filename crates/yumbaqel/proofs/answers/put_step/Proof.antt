@@ -1,0 +1,22 @@
+-- `put_step` meets its contract.
+use mathlib.Core.Path.{refl}
+use borrow.Author.Needs.{needs}
+use Rattle.yumbaqel.proofs.answers.put_step.Statement.{statement}
+use Rattle.yumbaqel.proofs.answers.put_step.Tie as tie
+
+returns : tie.Need-returns
+returns c = rw (c .before .before .before .before .before .answer .given .1) (record { number = c .put-refusal .ensures .0; kind = c .put-refusal .ensures .1 .0; place = c .put-refusal .ensures .1 .1 }, (refl, refl))
+
+returns-2 : tie.Need-returns-2
+returns-2 c = rw (c .before .before .before .before .before .answer2 .given .1) (record { number = c .put-refusal2 .ensures .0; kind = c .put-refusal2 .ensures .1 .0; place = c .put-refusal2 .ensures .1 .1 }, (refl, refl))
+
+pub put-step-spec : {M : Type 1} → statement M
+put-step-spec =
+    tie.close
+    (tie.spec
+    (λ c. search needs)
+    (λ c κs. search needs)
+    (λ c. search needs)
+    (λ c κs. search needs)
+    returns
+    returns-2)

@@ -1,0 +1,22 @@
+-- `yumbaqel_start` meets its contract.
+use borrow.Author.Needs.{needs}
+use Rattle.yumbaqel.proofs.Leaves.{started}
+use Rattle.yumbaqel.proofs.yumbaqel_start.Statement.{statement}
+use Rattle.yumbaqel.proofs.yumbaqel_start.Tie as tie
+
+returns : tie.Need-returns
+returns c =
+    let outcome = c .before .before .before .before .before .before .before .before .before .before .before .before .start .ensures _ _ in
+    let put = c .put-start .ensures in
+    (rw (outcome .answer) at (put .0), started _ _ _ _ outcome (put .1 .0) (put .1 .1))
+
+pub yumbaqel-start-spec : {M : Type 1} → statement M
+yumbaqel-start-spec =
+    tie.close
+    (tie.spec
+    (λ c κs. search needs)
+    (λ c κs. search needs)
+    (λ c. c .before .before .before .before .before .before .before .before .before .before .before .channel .given)
+    (λ c. c .before .before .before .before .before .before .before .before .before .storage .given)
+    (λ c. c .before .before .before .before .before .before .before .sediment .given)
+    returns)

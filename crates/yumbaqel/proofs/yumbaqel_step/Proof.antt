@@ -1,0 +1,24 @@
+-- `yumbaqel_step` meets its contract.
+use borrow.Author.Needs.{needs}
+use Rattle.yumbaqel.proofs.Leaves.{stepped, as-working}
+use Rattle.yumbaqel.proofs.yumbaqel_step.Statement.{statement}
+use Rattle.yumbaqel.proofs.yumbaqel_step.Tie as tie
+
+returns : tie.Need-returns
+returns c =
+    let outcome = c .before .before .before .before .before .before .before .before .before .before .before .before .before .before .before .before .step .ensures in
+    let put = c .put-step .ensures in
+    (rw (outcome .answer) at (put .0), (stepped _ _ _ _ _ _ outcome (put .1 .0) (put .1 .1), as-working _ (outcome .p) (outcome .y)))
+
+pub yumbaqel-step-spec : {M : Type 1} → statement M
+yumbaqel-step-spec =
+    tie.close
+    (tie.spec
+    (λ c κs. search needs)
+    (λ c κs. search needs)
+    (λ c. c .before .before .before .before .before .before .before .before .before .before .before .before .before .before .before .channel .given)
+    (λ c. c .before .before .before .before .before .before .before .before .before .before .before .before .before .storage .given)
+    (λ c. c .before .before .before .before .before .before .before .before .before .before .before .sediment .given)
+    (λ c. c .before .before .before .before .before .before .before .before .before .p .given)
+    (λ c. c .before .before .before .before .before .before .before .y .given)
+    returns)

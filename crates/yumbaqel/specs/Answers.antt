@@ -1,0 +1,50 @@
+-- An answer as a C caller reads it: in numbers, since no enum crosses the boundary.
+use mathlib.Core.Path.{_≡_}
+use mathlib.Core.List.{List, [], _∷_}
+use Prim.Native.Nat.{ℕ}
+use Rattle.model.specs.Refusals.{Place, nothing, reach, segment, row, Outcome, accepted, refused, Finding, passes, fails}
+use Rattle.model.specs.Load.{Loaded}
+
+-- "its place, which is a reach, a segment, a row or nothing": its kind, 0 for nothing
+abbrev pub kindNumber : Place → ℕ
+kindNumber nothing = 0
+kindNumber (reach i) = 1
+kindNumber (segment i) = 2
+kindNumber (row i) = 3
+
+-- and its number, which counts from 1; 0 for nothing
+abbrev pub placeNumber : Place → ℕ
+placeNumber nothing = 0
+placeNumber (reach i) = i
+placeNumber (segment i) = i
+placeNumber (row i) = i
+
+-- "A refusal carries its number and its place"; a call that is accepted has number 0 and no place
+abbrev pub numberOf : Finding → ℕ
+numberOf passes = 0
+numberOf (fails number place) = number
+
+abbrev pub placeOf : Finding → Place
+placeOf passes = nothing
+placeOf (fails number place) = place
+
+-- the three numbers that every call writes, where its tests find this
+pub record Told (finding : Finding) (number′ kind′ place′ : ℕ) : Type 0 where
+  pub number : number′ ≡ numberOf finding
+  pub kind : kind′ ≡ kindNumber (placeOf finding)
+  pub place : place′ ≡ placeNumber (placeOf finding)
+
+-- what the tests of a call with this answer found
+abbrev pub foundBy : {A : Type 0} → Outcome A → Finding
+foundBy (accepted v) = passes
+foundBy (refused number place) = fails number place
+
+-- a value of an accepted answer, written over what was there; after a refusal what was there
+abbrev pub handed : {A B : Type 0} → Outcome A → (A → B) → B → B
+handed (accepted v) value before = value v
+handed (refused number place) value before = before
+
+-- the seven values of a loading, in document 01's order
+abbrev pub loadedValues : Loaded → List ℕ
+loadedValues v =
+    v .steps ∷ v .interval ∷ v .segments ∷ v .rowsAt ∷ v .rows ∷ v .gaugesAt ∷ v .gauges ∷ []

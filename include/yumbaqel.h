@@ -1,0 +1,300 @@
+/*
+ * Yumbaqel: the OTIS river inside an intake gate controller, for C99 and C++.
+ *
+ * Link libyumbaqel.a, which `rt staticlib yumbaqel` writes (docs/C.md). Every function below is total: it takes any bytes, figures and
+ * lengths, and its outcome is proved to be the one that document 01 (docs/01-scope.md) sets out.
+ *
+ * What the caller owes, for every function:
+ *   - each pointer is not null and aligned for what it points at, also where its length is 0;
+ *   - a list has as many entries as its length says;
+ *   - what a call may write overlaps nothing else that the call is lent;
+ *   - nobody else writes what is lent while the call runs.
+ *
+ * What every call does: what it hands out comes first among its parameters. It writes *number, *kind and *place. An accepted call has number 0, kind 0 and place 0. A refused call has the
+ * refusal's number (enum yumbaqel_number) and its place: what kind it is (enum yumbaqel_kind) and which one, from 1; and it writes
+ * nothing else, no list, no value. An accepted call writes the values named below and the first entries of the lists named below, one
+ * for each segment (reach, row), and leaves what lies behind them.
+ *
+ * The library keeps nothing between calls, allocates nothing, calls nothing of its caller's, and needs at most YUMBAQEL_STACK bytes of
+ * stack. Calls on different lists may run at once.
+ */
+#ifndef YUMBAQEL_H
+#define YUMBAQEL_H
+
+#include <stddef.h>
+#include <stdint.h>
+
+#ifdef __cplusplus
+extern "C" {
+#endif
+
+#define YUMBAQEL_SCALE 1073741824        /* one whole, 2^30 */
+#define YUMBAQEL_HIGHEST 1000000000      /* the highest concentration, ng/L */
+#define YUMBAQEL_MOST_SEGMENTS 1024
+#define YUMBAQEL_MOST_STEPS 100000
+#define YUMBAQEL_MOST_REACHES 64
+#define YUMBAQEL_MOST_ROWS 256
+#define YUMBAQEL_MOST_GAUGES 32
+#define YUMBAQEL_LONGEST_SHEET 6308      /* bytes */
+#define YUMBAQEL_STACK 2048              /* bytes of stack that any call needs at most, x86-64 */
+
+/* The numbered refusals, in document 01's words. */
+enum yumbaqel_number {
+    YUMBAQEL_ACCEPTED = 0,
+    YUMBAQEL_MARK = 1,             /* Fewer than four bytes, or another mark. */
+    YUMBAQEL_SHORT_SHEET = 2,      /* The sheet ends before its last gauge is complete. */
+    YUMBAQEL_COUNT = 3,            /* A count is outside its range. */
+    YUMBAQEL_LONG_SHEET = 4,       /* Bytes follow the last gauge. */
+    YUMBAQEL_HEADER = 5,           /* A header field is outside its range. */
+    YUMBAQEL_REACH_FIELD = 6,      /* A reach field is outside its range (reach). */
+    YUMBAQEL_SEGMENTS = 7,         /* The reaches have more than 1,024 segments. */
+    YUMBAQEL_BOUNDARY_ROW = 8,     /* A boundary row breaks its rule on starts, or its concentration is outside its range (row). */
+    YUMBAQEL_GAUGE = 9,            /* A gauge breaks its rule (row). */
+    YUMBAQEL_FLOW = 10,            /* A flow is below 0 or above 100,000,000 (segment). */
+    YUMBAQEL_FACE = 11,            /* Q x dx exceeds AD own + AD below (segment). */
+    YUMBAQEL_SUM = 12,             /* T, V or h exceeds one whole (segment). */
+    YUMBAQEL_SHORT_LIST = 13,      /* A lent list is shorter than the river (the list of reach records: than the count of reaches), or
+                                      the river has no segment or over 1,024, or a report's segment is not in it. */
+    YUMBAQEL_FIGURE = 14,          /* A half-step sum (T, V or h) exceeds one whole, the last g is not 0, Kd exceeds 1,000, a
+                                      concentration exceeds its limit, or M or the count of steps exceeds 100,000 (segment; nothing
+                                      for U, U', M or the count, which are looked at after all segments). */
+    YUMBAQEL_STEPS_DONE = 15       /* M or more steps are done. */
+};
+
+/* What the place of a refusal is. */
+enum yumbaqel_kind {
+    YUMBAQEL_NOTHING = 0,
+    YUMBAQEL_REACH = 1,
+    YUMBAQEL_SEGMENT = 2,
+    YUMBAQEL_ROW = 3               /* a boundary row or, of refusal 9, a gauge */
+};
+
+/* A reach record: the sixteen fields of a reach, in the sheet's order and units. */
+struct yumbaqel_reach {
+    uint32_t segments;
+    uint32_t dispersion;           /* D, cm2/s */
+    uint32_t area;                 /* A, cm2 */
+    uint32_t area2;                /* AS, cm2 */
+    uint32_t alpha;                /* ALPHA; the five rates are in 10^-9 per second */
+    uint32_t qin;                  /* mL/s per km */
+    uint32_t qout;
+    uint32_t cl;                   /* ng/L */
+    uint32_t lambda;
+    uint32_t lambda2;
+    uint32_t lamhat;
+    uint32_t lamhat2;
+    uint32_t rho;                  /* g/m3 */
+    uint32_t kd;                   /* millionths of m3/g */
+    uint32_t cb;                   /* ng/L */
+    uint32_t start;                /* ng/L */
+};
+
+/* What an accepted loading hands out. */
+struct yumbaqel_loaded {
+    uint32_t steps;                /* M */
+    uint32_t interval;             /* the print interval */
+    uint32_t segments;
+    uint32_t rows_at;              /* where the boundary rows begin on the sheet, in bytes from 0 */
+    uint32_t rows;                 /* how many there are */
+    uint32_t gauges_at;            /* and the gauges */
+    uint32_t gauges;
+};
+
+typedef char yumbaqel_reach_has_64_bytes[sizeof(struct yumbaqel_reach) == 64 ? 1 : -1];
+typedef char yumbaqel_loaded_has_28_bytes[sizeof(struct yumbaqel_loaded) == 28 ? 1 : -1];
+
+/*
+ * A loading. Tests 1 to 13 on any bytes and any lists. Accepted, it writes *loaded, the first entries of the fourteen lists (the ten
+ * half-step numbers e to s, then CL, CB, Kd and the start figure), one for each segment, and those of the reach records, one for each
+ * reach. Lists of YUMBAQEL_MOST_SEGMENTS and YUMBAQEL_MOST_REACHES entries are long enough for every sheet.
+ */
+void yumbaqel_load(
+    uint32_t *number, uint32_t *kind, uint32_t *place, struct yumbaqel_loaded *loaded,
+    const uint8_t *sheet, size_t sheet_length,
+    struct yumbaqel_reach *reaches, size_t reaches_length,
+    uint32_t *e, size_t e_length, uint32_t *g, size_t g_length, uint32_t *l, size_t l_length,
+    uint32_t *a, size_t a_length, uint32_t *b, size_t b_length, uint32_t *k, size_t k_length,
+    uint32_t *ks, size_t ks_length, uint32_t *h, size_t h_length, uint32_t *m, size_t m_length,
+    uint32_t *s, size_t s_length, uint32_t *cl, size_t cl_length, uint32_t *cb, size_t cb_length,
+    uint32_t *kd, size_t kd_length, uint32_t *start, size_t start_length);
+
+/*
+ * A start of n segments. Tests 13 and 14. Accepted, it writes the first n entries of channel, storage and sediment (C, Z and W: the
+ * start figure), *upstream (the state's U: u, which is U at step 0) and *done (the state's count of steps: 0). It looks at nothing that
+ * it overwrites.
+ */
+void yumbaqel_start(
+    uint32_t *number, uint32_t *kind, uint32_t *place,
+    uint32_t n,
+    const uint32_t *e, size_t e_length, const uint32_t *g, size_t g_length, const uint32_t *l, size_t l_length,
+    const uint32_t *a, size_t a_length, const uint32_t *b, size_t b_length, const uint32_t *k, size_t k_length,
+    const uint32_t *ks, size_t ks_length, const uint32_t *h, size_t h_length, const uint32_t *m, size_t m_length,
+    const uint32_t *s, size_t s_length, const uint32_t *cl, size_t cl_length, const uint32_t *cb, size_t cb_length,
+    const uint32_t *kd, size_t kd_length, const uint32_t *start, size_t start_length,
+    uint32_t *channel, size_t channel_length, uint32_t *storage, size_t storage_length,
+    uint32_t *sediment, size_t sediment_length, uint32_t *upstream, uint32_t *done,
+    uint32_t u);
+
+/*
+ * A step of n segments. Tests 13 to 15; u is U' and steps is M. Accepted, it writes the first n entries of channel, storage and
+ * sediment, *upstream (u) and *done (one more), and the first n entries of the working lists p and y, whose content is of no matter
+ * before and of no use afterwards.
+ */
+void yumbaqel_step(
+    uint32_t *number, uint32_t *kind, uint32_t *place,
+    uint32_t n,
+    const uint32_t *e, size_t e_length, const uint32_t *g, size_t g_length, const uint32_t *l, size_t l_length,
+    const uint32_t *a, size_t a_length, const uint32_t *b, size_t b_length, const uint32_t *k, size_t k_length,
+    const uint32_t *ks, size_t ks_length, const uint32_t *h, size_t h_length, const uint32_t *m, size_t m_length,
+    const uint32_t *s, size_t s_length, const uint32_t *cl, size_t cl_length, const uint32_t *cb, size_t cb_length,
+    const uint32_t *kd, size_t kd_length, const uint32_t *start, size_t start_length,
+    uint32_t *channel, size_t channel_length, uint32_t *storage, size_t storage_length,
+    uint32_t *sediment, size_t sediment_length, uint32_t *upstream, uint32_t *done,
+    uint64_t *p, size_t p_length, uint64_t *y, size_t y_length,
+    uint32_t u, uint32_t steps);
+
+/*
+ * A report of a segment, which counts from 1. Tests 13 and 14; upstream and done are the state's U and count. Accepted, it writes *c,
+ * *z and *kdw: C, Z and Kd x W. It writes no list.
+ */
+void yumbaqel_report(
+    uint32_t *number, uint32_t *kind, uint32_t *place, uint32_t *c, uint32_t *z, uint64_t *kdw,
+    uint32_t n,
+    const uint32_t *e, size_t e_length, const uint32_t *g, size_t g_length, const uint32_t *l, size_t l_length,
+    const uint32_t *a, size_t a_length, const uint32_t *b, size_t b_length, const uint32_t *k, size_t k_length,
+    const uint32_t *ks, size_t ks_length, const uint32_t *h, size_t h_length, const uint32_t *m, size_t m_length,
+    const uint32_t *s, size_t s_length, const uint32_t *cl, size_t cl_length, const uint32_t *cb, size_t cb_length,
+    const uint32_t *kd, size_t kd_length, const uint32_t *start, size_t start_length,
+    const uint32_t *channel, size_t channel_length, const uint32_t *storage, size_t storage_length,
+    const uint32_t *sediment, size_t sediment_length, uint32_t upstream, uint32_t done,
+    uint32_t segment);
+
+/*
+ * U at step j of the boundary rows, for M steps (steps). Tests 3 (the lists have 1 to 256 entries, and as many each) and 8.
+ * Accepted, it writes *u.
+ */
+void yumbaqel_upstream(
+    uint32_t *number, uint32_t *kind, uint32_t *place, uint32_t *u,
+    const uint32_t *starts, size_t starts_length, const uint32_t *concentrations, size_t concentrations_length,
+    uint32_t steps, uint32_t j);
+
+/*
+ * The boundary rows of a sheet in two lists, as yumbaqel_upstream takes them. Tests 13 of the two lists and nothing of the sheet, which
+ * is one that a loading accepted. Accepted, it writes the lists' first entries, one for each row of the sheet.
+ */
+void yumbaqel_rows(
+    uint32_t *number, uint32_t *kind, uint32_t *place,
+    const uint8_t *sheet, size_t sheet_length,
+    uint32_t *starts, size_t starts_length, uint32_t *concentrations, size_t concentrations_length);
+
+/* Gauge j of a sheet that a loading accepted: the number of its segment. j counts from 0. Nothing is tested or written. */
+uint32_t yumbaqel_gauge(const uint8_t *sheet, size_t sheet_length, size_t j);
+
+/* ---- The same calls on one struct, for a caller who has no wish to hand over twenty lists by hand. */
+
+struct yumbaqel_list {
+    uint32_t *at;
+    size_t length;
+};
+
+struct yumbaqel_wide_list {
+    uint64_t *at;
+    size_t length;
+};
+
+/* What the calls are lent: the lists of a loading, the state, the working lists; and what the loading handed out. */
+struct yumbaqel_river {
+    struct yumbaqel_list e, g, l, a, b, k, ks, h, m, s, cl, cb, kd, start;
+    struct yumbaqel_list channel, storage, sediment;
+    uint32_t upstream, done;
+    struct yumbaqel_wide_list p, y;
+    struct yumbaqel_loaded loaded;
+};
+
+struct yumbaqel_refusal {
+    uint32_t number, kind, place;
+};
+
+struct yumbaqel_figures {
+    uint32_t channel, storage;     /* C and Z */
+    uint64_t sediment;             /* Kd x W */
+};
+
+/* Entries that yumbaqel_river_lend divides, for lists of this many segments each. */
+#define YUMBAQEL_WORDS(segments) (17 * (segments))
+#define YUMBAQEL_WIDE_WORDS(segments) (2 * (segments))
+
+/* Lends a river YUMBAQEL_WORDS(segments) and YUMBAQEL_WIDE_WORDS(segments) entries: room for that many segments. It is not loaded yet. */
+static inline void yumbaqel_river_lend(struct yumbaqel_river *river, size_t segments, uint32_t *words, uint64_t *wide_words)
+{
+    struct yumbaqel_list *const lists[17] = {
+        &river->e, &river->g, &river->l, &river->a, &river->b, &river->k, &river->ks, &river->h, &river->m,
+        &river->s, &river->cl, &river->cb, &river->kd, &river->start, &river->channel, &river->storage, &river->sediment};
+    const struct yumbaqel_loaded none = {0, 0, 0, 0, 0, 0, 0};
+    size_t i;
+    for (i = 0; i < 17; i++) {
+        lists[i]->at = words + i * segments;
+        lists[i]->length = segments;
+    }
+    river->p.at = wide_words;
+    river->p.length = segments;
+    river->y.at = wide_words + segments;
+    river->y.length = segments;
+    river->upstream = 0;
+    river->done = 0;
+    river->loaded = none;
+}
+
+/* The fourteen lists of a river as arguments. */
+#define YUMBAQEL_LISTS(r)                                                                                               \
+    (r)->e.at, (r)->e.length, (r)->g.at, (r)->g.length, (r)->l.at, (r)->l.length, (r)->a.at, (r)->a.length,             \
+    (r)->b.at, (r)->b.length, (r)->k.at, (r)->k.length, (r)->ks.at, (r)->ks.length, (r)->h.at, (r)->h.length,           \
+    (r)->m.at, (r)->m.length, (r)->s.at, (r)->s.length, (r)->cl.at, (r)->cl.length, (r)->cb.at, (r)->cb.length,         \
+    (r)->kd.at, (r)->kd.length, (r)->start.at, (r)->start.length
+#define YUMBAQEL_FIGURES(r)                                                                                             \
+    (r)->channel.at, (r)->channel.length, (r)->storage.at, (r)->storage.length, (r)->sediment.at, (r)->sediment.length
+
+static inline struct yumbaqel_refusal yumbaqel_river_load(
+    struct yumbaqel_river *river, const uint8_t *sheet, size_t sheet_length,
+    struct yumbaqel_reach *reaches, size_t reaches_length)
+{
+    struct yumbaqel_refusal told;
+    yumbaqel_load(&told.number, &told.kind, &told.place, &river->loaded,
+                  sheet, sheet_length, reaches, reaches_length, YUMBAQEL_LISTS(river));
+    return told;
+}
+
+/* A start of the river as loaded. */
+static inline struct yumbaqel_refusal yumbaqel_river_start(struct yumbaqel_river *river, uint32_t u)
+{
+    struct yumbaqel_refusal told;
+    yumbaqel_start(&told.number, &told.kind, &told.place, river->loaded.segments,
+                   YUMBAQEL_LISTS(river), YUMBAQEL_FIGURES(river), &river->upstream, &river->done, u);
+    return told;
+}
+
+/* A step of the river as loaded, with the sheet's M. */
+static inline struct yumbaqel_refusal yumbaqel_river_step(struct yumbaqel_river *river, uint32_t u)
+{
+    struct yumbaqel_refusal told;
+    yumbaqel_step(&told.number, &told.kind, &told.place, river->loaded.segments,
+                  YUMBAQEL_LISTS(river), YUMBAQEL_FIGURES(river), &river->upstream, &river->done,
+                  river->p.at, river->p.length, river->y.at, river->y.length, u, river->loaded.steps);
+    return told;
+}
+
+static inline struct yumbaqel_refusal yumbaqel_river_report(
+    const struct yumbaqel_river *river, uint32_t segment, struct yumbaqel_figures *figures)
+{
+    struct yumbaqel_refusal told;
+    yumbaqel_report(&told.number, &told.kind, &told.place, &figures->channel, &figures->storage, &figures->sediment,
+                    river->loaded.segments, YUMBAQEL_LISTS(river), YUMBAQEL_FIGURES(river),
+                    river->upstream, river->done, segment);
+    return told;
+}
+
+#ifdef __cplusplus
+}
+#endif
+
+#endif

@@ -1,0 +1,418 @@
+"""Calls put to the library and to the model, one after the other.
+
+After each call every byte that is on the shelf is compared: the answer, its place, every list, what lies behind
+the river in it, and the guard words around it.  A run also holds its figures to the exact river fed the same calls.
+"""
+from __future__ import annotations
+
+import random
+from collections import Counter
+from fractions import Fraction
+from typing import NamedTuple, Optional
+
+import exact
+import model
+import sheets
+from library import COLUMNS, FIGURES, KINDS, WORKING, Buffer, Library, Size, Slice, U32, flat
+from model import HIGHEST, HIGHEST_KD, MOST_SEGMENTS, MOST_STEPS, ONE_WHOLE, Reach, Row
+from sheets import HIGHEST_FIELD
+
+LISTS = (*COLUMNS, *FIGURES, *WORKING)
+ANSWER = ("number", "kind", "place")
+ACCEPTED = (0, None)
+
+Answer = tuple[int, Optional[str]]  # a refusal's number, 0 if accepted, and the kind of its place
+
+
+class Difference(Exception):
+    """The library did otherwise than the model."""
+
+
+class Tally:
+    """What the run has seen."""
+
+    def __init__(self) -> None:
+        self.answers: dict[str, Counter[Answer]] = {}
+        self.held = 0
+        self.per_step = Fraction(0)
+        self.differences = 0
+
+    def take(self, name: str, answer: Answer) -> None:
+        self.answers.setdefault(name, Counter())[answer] += 1
+
+    @property
+    def calls(self) -> int:
+        return sum(sum(counter.values()) for counter in self.answers.values())
+
+
+def place_of(refusal: Optional[model.Refusal]) -> tuple[int, int, int]:
+    """A refusal as the three numbers of an answer."""
+    if refusal is None:
+        return 0, 0, 0
+    kind, place = refusal.place or (None, 0)
+    return refusal.number, {name: number for number, name in KINDS.items()}[kind], place
+
+
+# What is lent
+
+
+def draw_word(rng: random.Random) -> int:
+    """The content of a list that no call has written."""
+    return rng.choice((0, 7, HIGHEST, HIGHEST_FIELD, rng.randint(0, HIGHEST_FIELD)))
+
+
+class Shelf:
+    """Everything that is lent: each buffer by its name, beside what it must hold."""
+
+    def __init__(self) -> None:
+        self.buffers: dict[str, Buffer] = {}
+        self.content: dict[str, list[int]] = {}
+
+    def add(self, name: str, content: list[int], size: int = 4) -> None:
+        self.buffers[name] = Buffer(content, size)
+        self.content[name] = list(content)
+
+    def put(self, name: str, content: list[int]) -> None:
+        self.content[name] = list(content)
+        self.buffers[name].put(content)
+
+    def whole(self, name: str) -> Slice:
+        return self.part(name, self.buffers[name].length)
+
+    def part(self, name: str, length: int) -> Slice:
+        return Slice(self.buffers[name], length)
+
+    def compare(self, what: str) -> None:
+        """Every byte on the shelf is as it must be."""
+        for name, buffer in self.buffers.items():
+            if not buffer.holds(self.content[name]):
+                found, wanted = buffer.content(), self.content[name]
+                where = next((at for at, pair in enumerate(zip(found, wanted)) if pair[0] != pair[1]), None)
+                differs = "the guards differ"
+                if where is not None:
+                    differs = f"entry {where} is {found[where]}, not {wanted[where]}"
+                raise Difference(f"{what}: {name} of {len(wanted)}: {differs}")
+
+
+class Caller:
+    """Puts calls to the library and to the model, and compares all that was lent."""
+
+    def __init__(self, library: Library, rng: random.Random, tally: Tally) -> None:
+        self.library = library
+        self.rng = rng
+        self.tally = tally
+        self.shelf = Shelf()
+        for name in ANSWER:
+            self.shelf.add(name, [0])
+        self.shelf.add("c", [0])
+        self.shelf.add("z", [0])
+        self.shelf.add("kdw", [0], 8)
+        self.shelf.add("u", [0])
+        self.shelf.add("loaded", [0] * len(model.Loaded._fields))
+
+    def dirty(self, *names: str) -> None:
+        """Any content in what a call is to write."""
+        for name in (*ANSWER, *names):
+            self.shelf.put(name, [draw_word(self.rng) for _ in self.shelf.content[name]])
+
+    def references(self) -> list[Buffer]:
+        return [self.shelf.buffers[name] for name in ANSWER]
+
+    def settle(self, name: str, refusal: Optional[model.Refusal], what: str) -> bool:
+        """Compares everything after a call; says whether it was accepted."""
+        told = place_of(refusal)
+        for each, figure in zip(ANSWER, told):
+            self.shelf.content[each] = [figure]
+        self.shelf.compare(f"{name}, {what}, which answers {told}")
+        self.tally.take(name, (told[0], KINDS[told[1]]))
+        return refusal is None
+
+    def lend_columns(self, lengths: list[int]) -> None:
+        """The fourteen lists, with any content."""
+        for name, length in zip(COLUMNS, lengths):
+            self.shelf.add(name, [draw_word(self.rng) for _ in range(length)])
+
+    def load(self, sheet: bytes, lengths: list[int], records: int, what: str) -> Optional[model.Loaded]:
+        """A loading of lists of these lengths."""
+        shelf = self.shelf
+        shelf.add("sheet", list(sheet), 1)
+        shelf.add("reaches", [draw_word(self.rng) for _ in range(records * len(Reach._fields))])
+        self.lend_columns(lengths)
+        self.dirty("loaded")
+        lists = model.Lists(0)
+        lists.column = {name: shelf.content[name] for name in COLUMNS}
+        words = shelf.content["reaches"]
+        table = [Reach(*words[at:at + 16]) for at in range(0, len(words), 16)]
+        loaded, refusal = None, None
+        try:
+            loaded = model.load(sheet, lists, table)
+            shelf.content["reaches"] = flat(table)
+            shelf.content["loaded"] = list(loaded)
+        except model.Refusal as found:
+            refusal = found
+        self.library.call("load", *self.references(), shelf.buffers["loaded"], shelf.whole("sheet"),
+                          Slice(shelf.buffers["reaches"], records), *(shelf.whole(name) for name in COLUMNS))
+        self.settle("load", refusal, what)
+        return loaded
+
+    def rows(self, starts: int, concentrations: int) -> bool:
+        """The rows of the sheet on the shelf in lists of these lengths; bytes past the sheet's end are 0."""
+        shelf = self.shelf
+        sheet = bytes(shelf.content["sheet"])
+        begin = row_count_at(sheet)
+        count = model.field_at(sheet, begin)
+        shelf.add("starts", [draw_word(self.rng) for _ in range(starts)])
+        shelf.add("concentrations", [draw_word(self.rng) for _ in range(concentrations)])
+        self.dirty()
+        refusal = model.Refusal(13) if min(starts, concentrations) < count else None
+        if refusal is None:
+            words = model.words(sheet, begin + model.FIELD, 2 * count)
+            shelf.content["starts"][:count] = words[0::2]
+            shelf.content["concentrations"][:count] = words[1::2]
+        self.library.call("rows", *self.references(), shelf.whole("sheet"), shelf.whole("starts"),
+                          shelf.whole("concentrations"))
+        return self.settle("rows", refusal, f"{count} rows")
+
+    def gauge(self, j: int) -> int:
+        shelf = self.shelf
+        sheet = bytes(shelf.content["sheet"])
+        found = self.library.call("gauge", shelf.whole("sheet"), Size(j))
+        wanted = model.field_at(sheet, gauge_count_at(sheet) + model.FIELD + model.FIELD * j)
+        if found != wanted:
+            raise Difference(f"gauge {j} is {found}, not {wanted}")
+        self.shelf.compare(f"gauge {j}")
+        self.tally.take("gauge", ACCEPTED)
+        return found
+
+    def upstream(self, starts: list[int], concentrations: list[int], steps: int, j: int) -> Optional[int]:
+        shelf = self.shelf
+        shelf.add("starts", starts)
+        shelf.add("concentrations", concentrations)
+        self.dirty("u")
+        refusal = None
+        try:
+            shelf.content["u"] = [model.upstream(starts, concentrations, steps, j)]
+        except model.Refusal as found:
+            refusal = found
+        self.library.call("upstream", *self.references(), shelf.buffers["u"], shelf.whole("starts"),
+                          shelf.whole("concentrations"), U32(steps), U32(j))
+        accepted = self.settle("upstream", refusal, f"M {steps}, step {j}")
+        return shelf.content["u"][0] if accepted else None
+
+
+def row_count_at(sheet: bytes) -> int:
+    """Where the count of rows stands on any bytes."""
+    front = len(model.MARK) + model.FIELD * len(model.Header._fields)
+    return front + model.FIELD * (1 + len(Reach._fields) * model.field_at(sheet, front))
+
+
+def gauge_count_at(sheet: bytes) -> int:
+    begin = row_count_at(sheet)
+    return begin + model.FIELD * (1 + len(Row._fields) * model.field_at(sheet, begin))
+
+
+# Runs: one accepted loading, then starts, steps and reports, refused ones included
+
+
+class Change(NamedTuple):
+    """A figure of a lent list or of the state that a call finds changed."""
+
+    name: str
+    at: int
+    figure: int
+
+
+class Run(Caller):
+    """A river that was loaded, and its exact river, which is fed the accepted calls alone."""
+
+    def __init__(self, library: Library, rng: random.Random, tally: Tally, sheet: bytes, kind: str) -> None:
+        super().__init__(library, rng, tally)
+        found = model.read_sheet(sheet)
+        self.river = model.river_of(found)
+        self.n = len(self.river)
+        self.kind = kind
+        self.exact: Optional[exact.ExactRiver | exact.BracketedRiver] = None
+        self.moves = 0                  # steps accepted since the latest accepted start
+        lengths = [self.n + rng.randrange(3) for _ in COLUMNS]
+        loaded = self.load(sheet, lengths, len(found.reaches) + rng.randrange(3), "a good river")
+        if loaded is None:
+            raise Difference("a good river is refused")
+        self.steps = loaded.M
+        for name in FIGURES:
+            self.shelf.add(name, [draw_word(rng) for _ in range(self.n + rng.randrange(3))])
+        for name in WORKING:
+            self.shelf.add(name, [rng.getrandbits(64) for _ in range(self.n + rng.randrange(3))], 8)
+        self.shelf.add("upstream", [draw_word(rng)])
+        self.shelf.add("done", [draw_word(rng)])
+
+    # the model's call on what is on the shelf, at the lengths told
+
+    def lent(self, told: dict[str, int]) -> tuple[model.Lists, model.State, list[int], list[int]]:
+        content = {name: self.shelf.content[name][:told.get(name)] for name in LISTS}
+        lists = model.Lists(0)
+        lists.column = {name: content[name] for name in COLUMNS}
+        state = model.State(content["C"], content["Z"], content["W"], self.shelf.content["upstream"][0],
+                            self.shelf.content["done"][0])
+        return lists, state, content["p"], content["y"]
+
+    def keep(self, state: model.State, p: list[int], y: list[int]) -> None:
+        """What an accepted call leaves on the shelf."""
+        for name, list_ in zip((*FIGURES, *WORKING), (state.C, state.Z, state.W, p, y)):
+            self.shelf.content[name][:len(list_)] = list_
+        self.shelf.content["upstream"] = [state.U]
+        self.shelf.content["done"] = [state.count]
+
+    def slices(self, names: tuple[str, ...], told: dict[str, int]) -> list[Slice]:
+        return [self.shelf.part(name, told.get(name, self.shelf.buffers[name].length)) for name in names]
+
+    def start(self, n: int, u: int, told: dict[str, int]) -> bool:
+        lists, state, p, y = self.lent(told)
+        self.dirty()
+        refusal = None
+        try:
+            model.start(lists, n, state, u)
+            self.keep(state, p, y)
+        except model.Refusal as found:
+            refusal = found
+        self.library.call("start", *self.references(), U32(n), *self.slices((*COLUMNS, *FIGURES), told),
+                          self.shelf.buffers["upstream"], self.shelf.buffers["done"], U32(u))
+        return self.settle("start", refusal, f"n {n}, U {u}, told {told}")
+
+    def step(self, n: int, u: int, steps: int, told: dict[str, int]) -> bool:
+        lists, state, p, y = self.lent(told)
+        self.dirty()
+        refusal = None
+        try:
+            model.step(lists, n, state, p, y, u, steps)
+            self.keep(state, p, y)
+        except model.Refusal as found:
+            refusal = found
+        self.library.call("step", *self.references(), U32(n), *self.slices((*COLUMNS, *FIGURES), told),
+                          self.shelf.buffers["upstream"], self.shelf.buffers["done"],
+                          *self.slices(WORKING, told), U32(u), U32(steps))
+        return self.settle("step", refusal, f"n {n}, U' {u}, M {steps}, told {told}")
+
+    def report(self, n: int, segment: int, told: dict[str, int]) -> bool:
+        lists, state, _, _ = self.lent(told)
+        self.dirty("c", "z", "kdw")
+        refusal = None
+        try:
+            figures = model.report(lists, n, state, segment)
+            for name, figure in zip(("c", "z", "kdw"), figures):
+                self.shelf.content[name] = [figure]
+        except model.Refusal as found:
+            refusal = found
+        figures = [self.shelf.buffers[name] for name in ("c", "z", "kdw")]
+        self.library.call("report", *self.references(), *figures, U32(n),
+                          *self.slices((*COLUMNS, *FIGURES), told), U32(state.U), U32(state.count), U32(segment))
+        return self.settle("report", refusal, f"n {n}, segment {segment}, told {told}")
+
+    # the exact river
+
+    def hold(self) -> None:
+        """Every segment's figures are within 6 x n of the exact river's, Kd x W within 6 x n x Kd."""
+        content = self.shelf.content
+        if self.exact is None or content["done"][0] != self.moves:
+            raise Difference(f"{content['done'][0]} steps counted, {self.moves} made")
+        for at, part in enumerate(self.river):
+            figures = (content["C"][at], content["Z"][at], part.Kd * content["W"][at])
+            far = max(exact.distances(figures, part.Kd, self.exact.figures(at)))
+            if far > exact.ALLOWED * self.moves:
+                raise Difference(f"segment {at + 1} is {float(far):.3f} from exact after {self.moves} steps")
+            if self.moves:
+                self.tally.per_step = max(self.tally.per_step, far / self.moves)
+            self.tally.held += len(figures)
+
+    # one call of the run, drawn at random
+
+    def some_n(self) -> int:
+        rng = self.rng
+        if rng.random() < 0.92:
+            return self.n
+        return rng.choice((0, max(1, self.n - 1), self.n + 1, self.n + 2, MOST_SEGMENTS, MOST_SEGMENTS + 1,
+                           HIGHEST_FIELD))
+
+    def some_told(self, names: tuple[str, ...]) -> dict[str, int]:
+        """Nearly always the lists' own lengths; else one or two lists short."""
+        rng = self.rng
+        if rng.random() < 0.9:
+            return {}
+        return {name: rng.choice((0, self.n - 1, rng.randrange(self.n)))
+                for name in rng.sample(names, rng.randint(1, 2))}
+
+    def some_u(self) -> int:
+        rng = self.rng
+        return rng.choice((HIGHEST + 1, HIGHEST_FIELD)) if rng.random() < 0.06 else sheets.concentration(rng)
+
+    def some_segment(self, n: int) -> int:
+        rng = self.rng
+        if rng.random() < 0.85:
+            return rng.choice((1, self.n, rng.randint(1, self.n)))
+        return rng.choice((0, n, min(n + 1, HIGHEST_FIELD), HIGHEST_FIELD))
+
+    def some_steps(self, done: int) -> int:
+        rng = self.rng
+        if rng.random() < 0.75:
+            return rng.choice((self.steps, MOST_STEPS, MOST_STEPS, MOST_STEPS))
+        return rng.choice((0, 1, done, min(done + 1, HIGHEST_FIELD), max(done - 1, 0), MOST_STEPS + 1,
+                           HIGHEST_FIELD, rng.randint(0, HIGHEST_FIELD)))
+
+    def some_changes(self) -> list[Change]:
+        """Nearly always none; else a figure at its limit or above it, in the lists or in the state."""
+        rng = self.rng
+        if rng.random() < 0.8:
+            return []
+        found = []
+        for _ in range(rng.choice((1, 1, 2))):
+            at = rng.choice((0, self.n - 1, rng.randrange(self.n)))
+            part = self.river[at]
+            room = {**dict.fromkeys(("e", "g", "l", "a", "k", "s"), ONE_WHOLE - part.T),
+                    **dict.fromkeys(("b", "ks", "m"), ONE_WHOLE - part.V), "h": ONE_WHOLE - part.h}
+            name = rng.choice((*COLUMNS, *FIGURES, *("upstream", "done") * 3))
+            if name in room:
+                top = getattr(part, name) + room[name]
+            else:
+                top = {"Kd": HIGHEST_KD, "done": MOST_STEPS}.get(name, HIGHEST)
+            figure = rng.choice((top, top + 1, top + 1, HIGHEST_FIELD, rng.randint(0, top)))
+            found.append(Change(name, 0 if name in ("upstream", "done") else at, figure))
+        return found
+
+    def one_call(self) -> None:
+        """A start, step or report; one that was accepted as loaded moves the exact river."""
+        rng, shelf = self.rng, self.shelf
+        name = rng.choices(("start", "step", "report"), (1, 6, 3))[0]
+        n, changes = self.some_n(), self.some_changes()
+        before = {each: list(shelf.content[each]) for each in (*LISTS, "upstream", "done")}
+        for change in changes:
+            content = list(shelf.content[change.name])
+            content[change.at] = change.figure
+            shelf.put(change.name, content)
+        if name == "start":
+            told, u = self.some_told((*COLUMNS, *FIGURES)), self.some_u()
+            accepted = self.start(n, u, told)
+        elif name == "step":
+            told, u = self.some_told(LISTS), self.some_u()
+            accepted = self.step(n, u, self.some_steps(shelf.content["done"][0]), told)
+        else:
+            told = self.some_told((*COLUMNS, *FIGURES))
+            accepted = self.report(n, self.some_segment(n), told)
+        if changes or n != self.n:
+            for each, content in before.items():
+                shelf.put(each, content)        # not a call of this run: an accepted one was lent other lists
+        elif accepted and name != "report":
+            if name == "start":
+                self.exact = exact.exact_river(self.kind, self.river, u)
+                self.moves = 0
+            else:
+                self.exact.step(u)
+                self.moves += 1
+            self.hold()
+
+    def go(self, calls: int) -> None:
+        """The first start, with any state before it; then that many calls."""
+        if not self.start(self.n, u := sheets.concentration(self.rng), {}):
+            raise Difference("a start of a good river is refused")
+        self.exact = exact.exact_river(self.kind, self.river, u)
+        self.hold()
+        for _ in range(calls):
+            self.one_call()

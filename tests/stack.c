@@ -1,0 +1,107 @@
+/*
+ * Measures the stack that each call takes, arguments and return address included: reads a sheet on standard input, makes the calls of its
+ * river on a painted stack, and prints for each call how far down the paint was touched.
+ */
+#define _GNU_SOURCE
+#include <stdint.h>
+#include <stdio.h>
+#include <string.h>
+#include <ucontext.h>
+
+#include "yumbaqel.h"
+
+#define ROOM (1 << 18)
+
+static unsigned char stack[ROOM] __attribute__((aligned(64)));
+static ucontext_t here, there;
+static void (*call)(void);
+static uintptr_t top;
+
+static uint8_t sheet[YUMBAQEL_LONGEST_SHEET + 1];
+static size_t length;
+static struct yumbaqel_reach reaches[YUMBAQEL_MOST_REACHES];
+static uint32_t words[YUMBAQEL_WORDS(YUMBAQEL_MOST_SEGMENTS)];
+static uint64_t wide_words[YUMBAQEL_WIDE_WORDS(YUMBAQEL_MOST_SEGMENTS)];
+static uint32_t starts[YUMBAQEL_MOST_ROWS], concentrations[YUMBAQEL_MOST_ROWS];
+static struct yumbaqel_river river;
+static struct yumbaqel_refusal told;
+static struct yumbaqel_figures figures;
+static uint32_t u;
+
+static void load(void)
+{
+    told = yumbaqel_river_load(&river, sheet, length, reaches, YUMBAQEL_MOST_REACHES);
+}
+
+static void start(void)
+{
+    told = yumbaqel_river_start(&river, u);
+}
+
+static void step(void)
+{
+    told = yumbaqel_river_step(&river, u);
+}
+
+static void report(void)
+{
+    told = yumbaqel_river_report(&river, river.loaded.segments, &figures);
+}
+
+static void upstream(void)
+{
+    yumbaqel_upstream(&told.number, &told.kind, &told.place, &u, starts, river.loaded.rows,
+                      concentrations, river.loaded.rows, river.loaded.steps, river.done);
+}
+
+static void rows(void)
+{
+    yumbaqel_rows(&told.number, &told.kind, &told.place, sheet, length,
+                  starts, YUMBAQEL_MOST_ROWS, concentrations, YUMBAQEL_MOST_ROWS);
+}
+
+static void gauge(void)
+{
+    u = yumbaqel_gauge(sheet, length, 0);
+}
+
+static void body(void)
+{
+    top = (uintptr_t)__builtin_frame_address(0);
+    call();
+}
+
+/* Prints how many bytes below its caller's frame a call touched. */
+static void measure(const char *name, void (*which)(void))
+{
+    size_t low;
+    memset(stack, 0xA5, ROOM);
+    call = which;
+    getcontext(&there);
+    there.uc_stack.ss_sp = stack;
+    there.uc_stack.ss_size = ROOM;
+    there.uc_link = &here;
+    makecontext(&there, body, 0);
+    swapcontext(&here, &there);
+    for (low = 0; low < ROOM && stack[low] == 0xA5; low++)
+        ;
+    printf("%s %lu\n", name, (unsigned long)(top - (uintptr_t)(stack + low)));
+}
+
+int main(void)
+{
+    length = fread(sheet, 1, sizeof sheet, stdin);
+    yumbaqel_river_lend(&river, YUMBAQEL_MOST_SEGMENTS, words, wide_words);
+    printf("stated %d\n", YUMBAQEL_STACK);
+    measure("load", load);
+    if (told.number != YUMBAQEL_ACCEPTED)
+        return 0;
+    measure("rows", rows);
+    measure("gauge", gauge);
+    measure("upstream", upstream);
+    measure("start", start);
+    measure("step", step);
+    measure("step", step);
+    measure("report", report);
+    return 0;
+}

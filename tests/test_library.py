@@ -1,0 +1,349 @@
+"""Tests the library for C over its boundary, call by call.
+
+    python3 tests/test_library.py PATH_TO_ARCHIVE [--seed N] [--long [--minutes N]]
+
+Loadings, starts, steps, reports and lookups of U, accepted and refused, are put to the library and to the
+model.  After each call every byte that was lent is compared, and the figures are held to the exact river fed the
+same calls: at most 6 x n, sediment 6 x n x Kd.  Then examples/gate.c is run, and the stack that the calls take is
+measured.
+The exit status is 0 only when every group ran, showed every answer that it must and agreed.
+"""
+from __future__ import annotations
+
+import argparse
+import random
+import subprocess
+import sys
+import tempfile
+import time
+from collections import Counter
+from collections.abc import Callable, Iterator
+from dataclasses import replace
+from itertools import chain, islice
+from pathlib import Path
+from typing import NamedTuple
+
+import exact
+import model
+import sheets
+from calls import ACCEPTED, Answer, Caller, Difference, Run, Tally, row_count_at
+from library import COLUMNS, ROOT, BuildFault, Library, compiled, shared_object
+from model import HIGHEST, HIGHEST_KD, MOST_REACHES, MOST_ROWS, MOST_SEGMENTS, MOST_STEPS, Row
+from sheets import HIGHEST_FIELD
+
+MOST_SHOWN = 5                      # differences described
+MOST_DIFFERENCES = 20               # after which the run is given up
+
+
+class GivenUp(Exception):
+    """Too many differences."""
+
+
+def say(line: str) -> None:
+    print(line, flush=True)
+
+
+# The groups
+
+
+Trial = Callable[[Library, random.Random, Tally], None]
+
+
+def any_lengths(rng: random.Random, sheet: bytes) -> tuple[list[int], int]:
+    """Lengths for the lists of a loading: long enough, or some of them short; of a bad sheet, any."""
+    try:
+        reaches = model.walk(model.Walk(sheet)).reaches
+        n = min(model.segment_count(reaches), MOST_SEGMENTS)
+        count = len(reaches)
+    except (model.Refusal, MemoryError):
+        n, count = rng.randrange(4), rng.randrange(4)
+    lengths = [n + rng.randrange(3) for _ in COLUMNS]
+    if rng.random() < 0.2:
+        for at in rng.sample(range(len(COLUMNS)), rng.randint(1, 3)):
+            lengths[at] = rng.choice((0, max(0, n - 1), rng.randint(0, n)))
+    records = count + rng.choice((0, 0, 1, 2, -1 if rng.random() < 0.3 else 0))
+    return lengths, max(0, min(records, MOST_REACHES + 2))
+
+
+def loading(case: sheets.Case) -> Trial:
+    """One loading, then the rows and the gauges of the same bytes, accepted or not."""
+    def trial(library: Library, rng: random.Random, tally: Tally) -> None:
+        caller = Caller(library, rng, tally)
+        lengths, records = any_lengths(rng, case.sheet)
+        caller.load(case.sheet, lengths, records, case.name)
+        count = min(model.field_at(case.sheet, row_count_at(case.sheet)), MOST_ROWS)
+        caller.rows(*(max(0, count + rng.choice((0, 0, 0, 1, -1))) for _ in range(2)))
+        for j in (0, rng.randrange(40), rng.choice((HIGHEST_FIELD, 2 ** 63, 2 ** 64 - 1))):
+            caller.gauge(j)
+    return trial
+
+
+def run_of(case: sheets.Case, calls: int) -> Trial:
+    def trial(library: Library, rng: random.Random, tally: Tally) -> None:
+        Run(library, rng, tally, case.sheet, case.exact).go(calls)
+    return trial
+
+
+def own_river(case: sheets.Case) -> Trial:
+    """The sheet's own river, as a controller runs it: U from its rows, its gauges, M steps and one more."""
+    def trial(library: Library, rng: random.Random, tally: Tally) -> None:
+        run = Run(library, rng, tally, case.sheet, case.exact)
+        found = model.read_sheet(case.sheet)
+        starts, concentrations = (list(each) for each in zip(*found.rows))
+        if not run.rows(len(starts), len(starts)):
+            raise Difference("the rows of a good river are refused")
+        u = run.upstream(starts, concentrations, run.steps, 0)
+        run.start(run.n, u, {})
+        run.exact = exact.exact_river(run.kind, run.river, u)
+        for j in range(1, run.steps + 2):
+            u = run.upstream(starts, concentrations, run.steps, j)
+            if run.step(run.n, u, run.steps, {}):
+                run.exact.step(u)
+                run.moves += 1
+                run.hold()
+            for at in range(len(found.gauges)):
+                run.report(run.n, run.gauge(at), {})
+        if run.moves != run.steps:
+            raise Difference(f"{run.moves} steps made of {run.steps}")
+    return trial
+
+
+def lookup(library: Library, rng: random.Random, tally: Tally) -> None:
+    """U at steps of rows with every kind of fault, and lists of different lengths."""
+    caller = Caller(library, rng, tally)
+    steps = rng.choice((1, 5, 300, MOST_STEPS, 0, HIGHEST_FIELD, rng.randint(0, HIGHEST_FIELD)))
+    rows = sheets.random_rows(rng, min(max(steps, 1), MOST_STEPS), rng.choice((1, 3, 20, MOST_ROWS)))
+    starts, concentrations = [list(each) for each in zip(*rows)]
+    at = rng.randrange(len(rows))
+    fault = rng.randrange(8)
+    if fault == 0:
+        starts[at] = rng.choice((0, starts[at] + 1, starts[at - 1], HIGHEST_FIELD, max(steps, 1)))
+    elif fault == 1:
+        concentrations[at] = rng.choice((HIGHEST, HIGHEST + 1, HIGHEST_FIELD))
+    elif fault == 2:
+        rng.choice((starts, concentrations)).pop()
+    elif fault == 3:
+        length = rng.choice((0, 1, MOST_ROWS, MOST_ROWS + 1, 2 * MOST_ROWS))
+        starts, concentrations = list(range(length)), [9] * length
+    some = rng.randint(0, min(steps, HIGHEST_FIELD))
+    for j in (0, some, steps, min(steps + 1, HIGHEST_FIELD), HIGHEST_FIELD, *starts[:3]):
+        caller.upstream(starts, concentrations, steps, j)
+
+
+def cases(rng: random.Random) -> Iterator[sheets.Case]:
+    """Sheets of every kind, for single loadings."""
+    yield from sheets.bench_cases()
+    yield from sheets.extreme_rivers()
+    yield from rng.sample(list(sheets.cut_sheets(sheets.plain())), 60)
+    yield from islice(sheets.lengthened_sheets(rng, sheets.plain()), 20)
+    yield from islice(sheets.marked_sheets(rng, sheets.plain()), 40)
+    yield from sheets.counted_sheets(sheets.plain())
+    yield from rng.sample(list(sheets.end_of_range_sheets(sheets.plain())), 150)
+    yield from sheets.disordered_sheets(sheets.plain())
+    yield from sheets.faulty_pairs()
+    yield from sheets.many_faults(rng, 100)
+    yield from sheets.changed_sheets(rng, 150)
+    yield from sheets.unsifted_rivers(rng, 150)
+    yield sheets.Case("the longest sheet", sheets.write(sheets.fullest(rng)))
+    yield from (sheets.Case(f"{length} random bytes", rng.randbytes(length)) for length in range(0, 120, 9))
+
+
+class Group(NamedTuple):
+    """A group of trials, and the answers that it must show."""
+
+    title: str
+    make: Callable[[random.Random], Iterator[Trial]]
+    answers: dict[str, set[Answer]]
+    exact: bool = False             # figures are held to the exact river
+
+
+SHEET_ANSWERS = {ACCEPTED, *((number, None) for number in (1, 2, 3, 4, 5, 7, 13)), (6, "reach"), (8, "row"),
+                 (9, "row"), (10, "segment"), (11, "segment"), (12, "segment")}
+RUN_ANSWERS = {
+    "load": {ACCEPTED},
+    "start": {ACCEPTED, (13, None), (14, "segment"), (14, None)},
+    "step": {ACCEPTED, (13, None), (14, "segment"), (14, None), (15, None)},
+    "report": {ACCEPTED, (13, None), (14, "segment"), (14, None)},
+}
+OWN_ANSWERS = {"load": {ACCEPTED}, "rows": {ACCEPTED}, "gauge": {ACCEPTED}, "upstream": {ACCEPTED},
+               "start": {ACCEPTED}, "step": {ACCEPTED, (15, None)}, "report": {ACCEPTED}}
+
+GROUPS = (
+    Group("loadings of every kind", lambda rng: map(loading, cases(rng)),
+          {"load": SHEET_ANSWERS, "rows": {ACCEPTED, (13, None)}, "gauge": {ACCEPTED}}),
+    Group("lookups of U", lambda rng: (lookup for _ in range(400)),
+          {"upstream": {ACCEPTED, (3, None), (8, "row")}}),
+    Group("the sheets' own rivers",
+          lambda rng: map(own_river, chain(sheets.small_rivers(rng, 15), sheets.rivers(rng, 15, 400))),
+          OWN_ANSWERS, True),
+    Group("calls of every kind, in fractions",
+          lambda rng: (run_of(each, 40) for each in sheets.small_rivers(rng, 100)), RUN_ANSWERS, True),
+    Group("calls of every kind, between bounds",
+          lambda rng: (run_of(each, 60) for each in sheets.rivers(rng, 50, 400)), RUN_ANSWERS, True),
+    Group("half-step sums at one whole",
+          lambda rng: (run_of(each, 40) for each in sheets.tight_rivers(rng, 50) if each.exact),
+          RUN_ANSWERS, True),
+    Group("figures at the highest", lambda rng: (run_of(each, 40) for each in sheets.highest_rivers(rng, 60)),
+          RUN_ANSWERS, True),
+    Group("the largest rivers", lambda rng: (run_of(each, 12) for each in sheets.large_rivers(rng, 3)),
+          {"load": {ACCEPTED}, "start": {ACCEPTED}, "step": {ACCEPTED}}, True),
+)
+
+
+def run_group(library: Library, group: Group, seed: str, total: Tally) -> None:
+    """One group: every trial, then what the group as a whole must have shown."""
+    own = Tally()
+    begin = time.monotonic()
+    rng = random.Random(f"{seed} {group.title}")
+    for number, trial in enumerate(group.make(rng)):
+        try:
+            trial(library, random.Random(f"{seed} {group.title} {number}"), own)
+        except Difference as difference:
+            own.differences += 1
+            if total.differences + own.differences <= MOST_SHOWN:
+                say(f"  trial {number}: {difference}")
+            if own.differences >= MOST_DIFFERENCES:
+                break
+    missing = {f"{name} {answer}" for name, answers in group.answers.items()
+               for answer in answers - set(own.answers.get(name, ()))}
+    if missing or (group.exact and own.held == 0):
+        own.differences += 1
+        say(f"  the group shows too little: missing {sorted(missing)}, {own.held} figures held")
+    for name, counter in own.answers.items():
+        total.answers.setdefault(name, Counter()).update(counter)
+    total.held += own.held
+    total.per_step = max(total.per_step, own.per_step)
+    total.differences += own.differences
+    line = f"{group.title}: {own.calls} calls"
+    if group.exact:
+        line += f", {own.held} figures within {float(own.per_step):.3f} per step"
+    say(f"{line}, {own.differences} differences ({time.monotonic() - begin:.1f} s)")
+    if total.differences >= MOST_DIFFERENCES:
+        raise GivenUp(f"given up after {total.differences} differences")
+
+
+# The example, and the stack
+
+
+def pulse() -> sheets.Draft:
+    """A river with a spill at its top in steps 3 to 12, and three gauges."""
+    draft = sheets.plain()
+    rows = [Row(0, 1_000), Row(3, 900_000), Row(13, 1_000)]
+    return replace(draft, rows=rows).with_header(M=60, interval=1)
+
+
+def gate_lines(sheet: bytes, gauge: int, limit: int) -> str:
+    """What examples/gate.c prints, by the model."""
+    lines, shut, done = [], False, 0
+    try:
+        for after in model.run(sheet):
+            done = after.step
+            if (model.figures_at(after.lists, after.state, after.gauges[gauge - 1])[0] > limit) != shut:
+                shut = not shut
+                lines.append(f"{'shut' if shut else 'open'} at step {done}")
+        lines.append(f"done {done}")
+    except model.Refusal as refusal:
+        place = " {} {}".format(*refusal.place) if refusal.place else ""
+        lines = [f"refused {refusal.number}{place}"]
+    return "".join(line + "\n" for line in lines)
+
+
+def run_gate(archive: str, folder: Path, total: Tally) -> None:
+    """The example, built as C99 with no warning: it prints what the model says, from a file and from a pipe."""
+    path = compiled(folder / "gate", "-std=c99", "-pedantic", "-Wall", "-Wextra", "-Werror",
+                    f"-I{ROOT / 'include'}", str(ROOT / "examples" / "gate.c"), archive)
+    moved = refused = faults = count = 0
+    good = sheets.write(pulse())
+    for sheet in (good, good[:-1], good + b"\0", sheets.write(pulse().with_reach(1, Kd=HIGHEST_KD + 1)),
+                  sheets.write(pulse().with_reach(2, D=0)), sheets.write(sheets.fullest(random.Random(1)))):
+        for gauge in (1, 2, 3):
+            for limit in (2_000, 100_000, 880_000, HIGHEST):
+                wanted = gate_lines(sheet, gauge, limit)
+                (folder / "sheet").write_bytes(sheet)
+                for name, fed in ((str(folder / "sheet"), b""), ("-", sheet)):
+                    run = subprocess.run([path, name, str(gauge), str(limit)], input=fed, capture_output=True,
+                                         timeout=60)
+                    count += 1
+                    if run.stdout.decode() != wanted:
+                        faults += 1
+                        if faults <= MOST_SHOWN:
+                            say(f"  gate {gauge} {limit}: {run.stdout!r}, not {wanted!r}")
+                moved += "shut" in wanted and "open" in wanted
+                refused += "refused" in wanted
+    if not moved or not refused:
+        faults += 1
+        say("  the example shows too little")
+    total.differences += faults
+    say(f"examples/gate.c: {count} runs, {faults} differences")
+
+
+def run_stack(archive: str, folder: Path, total: Tally) -> None:
+    """The stack that each call takes, on a painted stack; the header's figure is at least that."""
+    path = compiled(folder / "stack", "-O1", "-std=gnu99", "-Wall", "-Wextra", "-Werror",
+                    f"-I{ROOT / 'include'}", str(ROOT / "tests" / "stack.c"), archive)
+    rng = random.Random(1)
+    found: dict[str, int] = {}
+    for sheet in (sheets.write(sheets.fullest(rng)), sheets.write(pulse()),
+                  *(each.sheet for each in chain(sheets.large_rivers(rng, 1), sheets.faulty_pairs()))):
+        run = subprocess.run([path], input=sheet, capture_output=True, timeout=60)
+        for line in run.stdout.decode().splitlines():
+            name, used = line.split()
+            found[name] = max(found.get(name, 0), int(used))
+    stated = found.pop("stated", 0)
+    wanted = {"load", "start", "step", "report", "upstream", "rows", "gauge"}
+    faults = int(set(found) != wanted) + sum(used > stated for used in found.values())
+    total.differences += faults
+    say(f"stack: {', '.join(f'{name} {used}' for name, used in sorted(found.items()))} bytes, {stated} stated, "
+        f"{faults} differences")
+
+
+def arguments() -> argparse.Namespace:
+    parser = argparse.ArgumentParser(description="Tests the library for C over its boundary.")
+    parser.add_argument("archive", help="path of libyumbaqel.a")
+    parser.add_argument("--seed", type=int, default=1, help="fixes every call that is drawn")
+    parser.add_argument("--long", action="store_true", help="go on with new draws")
+    parser.add_argument("--minutes", type=float, default=10.0, help="how long a long run goes on")
+    return parser.parse_args()
+
+
+def run_all(asked: argparse.Namespace, folder: Path, total: Tally) -> None:
+    end = time.monotonic() + 60 * asked.minutes
+    library = Library(shared_object(asked.archive, folder))
+    for group in GROUPS:
+        run_group(library, group, str(asked.seed), total)
+    run_gate(asked.archive, folder, total)
+    run_stack(asked.archive, folder, total)
+    number = 1
+    while asked.long and time.monotonic() < end:
+        number += 1
+        say(f"round {number}")
+        for group in GROUPS:
+            if time.monotonic() < end:
+                run_group(library, group, f"{asked.seed} round {number}", total)
+
+
+def main() -> int:
+    asked = arguments()
+    total = Tally()
+    begin = time.monotonic()
+    try:
+        with tempfile.TemporaryDirectory(prefix="yumbaqel-") as folder:
+            run_all(asked, Path(folder), total)
+    except (BuildFault, GivenUp, OSError, subprocess.TimeoutExpired) as fault:
+        say(f"FAILED: {fault}")
+        return 1
+    for name, counter in sorted(total.answers.items()):
+        shown = (f"{number}{' ' + kind if kind else ''}: {count}" for (number, kind), count
+                 in sorted(counter.items(), key=lambda pair: (pair[0][0], pair[0][1] or "")))
+        say(f"  {name}: {', '.join(shown)}")
+    say(f"seed {asked.seed}, {time.monotonic() - begin:.0f} s: {total.calls} calls, {total.held} figures "
+        f"within {float(total.per_step):.3f} per step of the exact river, {exact.ALLOWED} allowed")
+    if total.differences or total.held == 0:
+        say(f"FAILED: {total.differences} differences")
+        return 1
+    say("passed")
+    return 0
+
+
+if __name__ == "__main__":
+    sys.exit(main())
