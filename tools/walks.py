@@ -1452,14 +1452,14 @@ module _ {MODEL} (W : Given 𝓤 H A) {RUN}
         outs(lambda k: f"mut-tells (named {k}) {part('κs', k)} {row(k)}") + [f"shr-slice-tells (named 4) {part('κs', 4)} u8", f"mut-slice-tells (named 5) {part('κs', 5)} T.the-row"] + [f"mut-slice-tells (named {j + 6}) {part('κs', j + 6)} u32" for j in range(n)],
         " ".join(outs(lambda k: tail("κs", k))) + " (κs .1 .1 .1 .1) " + " ".join(outs(lambda k: tail("qs", k))) + " (qs .1 .1 .1 .1) " + " ".join(tail("a", i) for i in range(6)) + " (a" + " .1" * 6 + ") "
         + " ".join(f"(are{' .1' * i} .0 .0 .1)" for i in (4, 5)) + " " + tuple_of([f"are{' .1' * (j + 6)} .0 .0 .1" for j in range(n)]),
-        [("loader", "Loader", "calls-loading·load"), ("put", "Put", "calls-yumbaqel·answers·put-load")],
+        [("loader", "Loader", "calls-loading·load"), ("put", "Put", "calls-answers·put-load")],
     )
     write(
         "yumbaqel",
         "yumbaqel_load",
         "-- `yumbaqel_load` meets its contract: the loader answers, writes the fourteen lists and fills the reach records, and `put_load` hands the\n-- answer out. Every list and every reference is passed on.",
-        IMPORTS_LOAD + IMPORTS_REACH + "use Rattle.yumbaqel.specs.Answers.{Told, foundBy, handed, loadedValues}\n"
-        + callee_imports("Rattle.loading.proofs.load", "loader") + callee_imports("Rattle.yumbaqel.proofs.answers.put_load", "put")
+        IMPORTS_LOAD + IMPORTS_REACH + "use Rattle.answers.specs.Answers.{Told, foundBy, handed, loadedValues}\n"
+        + callee_imports("Rattle.loading.proofs.load", "loader") + callee_imports("Rattle.answers.proofs.put_load", "put")
         + LENT.replace("loading·proofs.proofs", "loading.proofs") + own_imports("yumbaqel", "yumbaqel_load", code=False),
         body,
     )

@@ -10,7 +10,7 @@ use Rattle.otis.specs.declared.Start.{Start}
 use Rattle.otis.specs.declared.Step.{Step}
 use Rattle.otis.specs.Says.{startSays, stepSays}
 use Rattle.otis.specs.Outcomes.{StartOutcome, StepOutcome}
-use Rattle.yumbaqel.specs.Answers.{handed}
+use Rattle.answers.specs.Answers.{handed}
 
 -- a state by its five parts
 as-state : {c z w : List ℕ} {u d : ℕ} (s : State) → c ≡ s .channel → z ≡ s .storage → w ≡ s .sediment → u ≡ s .upstream → d ≡ s .steps →

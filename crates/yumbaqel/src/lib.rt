@@ -13,7 +13,7 @@ ghost use Rattle.model.specs.Upstream.{upstreamAnswer};
 ghost use Rattle.terms.specs.Says.{reachSays};
 ghost use Rattle.terms.specs.Lent.{columns, state};
 ghost use Rattle.sheet.specs.Rows.{rowListTest, rowListAfter};
-ghost use Rattle.yumbaqel.specs.Answers.{foundBy, handed, Told, loadedValues};
+ghost use Rattle.answers.specs.Answers.{foundBy, handed, Told, loadedValues};
 use answers::put_finding;
 use answers::put_load;
 use answers::put_report;
@@ -22,8 +22,6 @@ use answers::put_step;
 use answers::put_upstream;
 use otis::River;
 use terms::Reach;
-
-mod answers;
 
 // A loading: tests 1 to 13. `loaded` is M, the print interval, the segment count, where the rows begin on the sheet and how many there
 // are, and the same of the gauges.

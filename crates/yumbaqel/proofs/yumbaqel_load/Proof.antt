@@ -52,15 +52,15 @@ use Rattle.loader.proofs.Load.Laws as S′
 use Rattle.terms.specs.declared.Reach.{Reach}
 use Rattle.terms.proofs.Reach as T
 use Rattle.terms.proofs.Reach.Laws as T′
-use Rattle.yumbaqel.specs.Answers.{Told, foundBy, handed, loadedValues}
+use Rattle.answers.specs.Answers.{Told, foundBy, handed, loadedValues}
 use Rattle.loading.proofs.load as loader
 use Rattle.loading.proofs.load.Symbol as loader-def
 use Rattle.loading.proofs.load.Symbol.{name as #loader}
 use Rattle.loading.proofs.load.Met as loader-thm
-use Rattle.yumbaqel.proofs.answers.put_load as put
-use Rattle.yumbaqel.proofs.answers.put_load.Symbol as put-def
-use Rattle.yumbaqel.proofs.answers.put_load.Symbol.{name as #put}
-use Rattle.yumbaqel.proofs.answers.put_load.Met as put-thm
+use Rattle.answers.proofs.put_load as put
+use Rattle.answers.proofs.put_load.Symbol as put-def
+use Rattle.answers.proofs.put_load.Symbol.{name as #put}
+use Rattle.answers.proofs.put_load.Met as put-thm
 use Rattle.loading.proofs.Lent.{Refs, Lists, rows, Values, values, Rooms, last, Same, before, after, heard-last, one-fact, and-fact, says-all}
 use Rattle.yumbaqel.proofs.yumbaqel_load.Key.{name as #the-fn}
 use Rattle.yumbaqel.proofs.yumbaqel_load as the-fn
@@ -350,4 +350,4 @@ yumbaqel-load-spec 𝓤 H 𝓜 𝓖 𝓡 =
     (tables 𝓤 H 𝓜 𝓡 code.env .C) (tables 𝓤 H 𝓜 𝓡 code.env .Λ) #the-fn code.function (code.unfolded 𝓤 H 𝓜 𝓡)
     (meets 𝓤 H (𝓖 .A) (givenOf 𝓤 H 𝓜 𝓖) (𝓜 .mem) (𝓡 .run) (tablesOf 𝓤 H 𝓜 (tables 𝓤 H 𝓜 𝓡 code.env))
     (cited 𝓤 H (Loader 𝓤 H (𝓖 .A) (𝓜 .mem) (𝓡 .run)) 𝓜 𝓡 code.env #loader loader-def.routine code.calls-loading·load (loader-thm.met 𝓤 H 𝓜 𝓖 𝓡))
-    (cited 𝓤 H (Put 𝓤 H (𝓖 .A) (𝓜 .mem) (𝓡 .run)) 𝓜 𝓡 code.env #put put-def.routine code.calls-yumbaqel·answers·put-load (put-thm.met 𝓤 H 𝓜 𝓖 𝓡)))
+    (cited 𝓤 H (Put 𝓤 H (𝓖 .A) (𝓜 .mem) (𝓡 .run)) 𝓜 𝓡 code.env #put put-def.routine code.calls-answers·put-load (put-thm.met 𝓤 H 𝓜 𝓖 𝓡)))

@@ -1,8 +1,8 @@
--- `put_step` meets its contract.
+-- `put_start` meets its contract.
 use mathlib.Core.Path.{refl}
 use borrow.Author.Needs.{needs}
-use Rattle.yumbaqel.proofs.answers.put_step.Statement.{statement}
-use Rattle.yumbaqel.proofs.answers.put_step.Tie as tie
+use Rattle.answers.proofs.put_start.Statement.{statement}
+use Rattle.answers.proofs.put_start.Tie as tie
 
 returns : tie.Need-returns
 returns c = rw (c .before .before .before .before .before .answer .given .1) (record { number = c .put-refusal .ensures .0; kind = c .put-refusal .ensures .1 .0; place = c .put-refusal .ensures .1 .1 }, (refl, refl))
@@ -10,8 +10,8 @@ returns c = rw (c .before .before .before .before .before .answer .given .1) (re
 returns-2 : tie.Need-returns-2
 returns-2 c = rw (c .before .before .before .before .before .answer2 .given .1) (record { number = c .put-refusal2 .ensures .0; kind = c .put-refusal2 .ensures .1 .0; place = c .put-refusal2 .ensures .1 .1 }, (refl, refl))
 
-pub put-step-spec : {M : Type 1} → statement M
-put-step-spec =
+pub put-start-spec : {M : Type 1} → statement M
+put-start-spec =
     tie.close
     (tie.spec
     (λ c. search needs)

@@ -4,7 +4,7 @@ ghost use Rattle.terms.specs.Says.{placeSays, findingSays};
 ghost use Rattle.loader.specs.Says.{loadSays};
 ghost use Rattle.boundary.specs.Says.{upstreamSays};
 ghost use Rattle.otis.specs.Says.{startSays, stepSays, reportSays};
-ghost use Rattle.yumbaqel.specs.Answers.{kindNumber, placeNumber, foundBy, handed, Told, loadedValues};
+ghost use Rattle.answers.specs.Answers.{kindNumber, placeNumber, foundBy, handed, Told, loadedValues};
 use boundary::Upstream;
 use loader::Load;
 use otis::Report;

@@ -1,7 +1,7 @@
 -- `kind_of` meets its contract.
 use borrow.Author.Needs.{needs}
-use Rattle.yumbaqel.proofs.answers.kind_of.Statement.{statement}
-use Rattle.yumbaqel.proofs.answers.kind_of.Tie as tie
+use Rattle.answers.proofs.kind_of.Statement.{statement}
+use Rattle.answers.proofs.kind_of.Tie as tie
 
 returns : tie.Need-returns
 returns c = rw (c .enum-told .given .1)

@@ -1,7 +1,7 @@
 -- `put_finding` meets its contract.
 use borrow.Author.Needs.{needs}
-use Rattle.yumbaqel.proofs.answers.put_finding.Statement.{statement}
-use Rattle.yumbaqel.proofs.answers.put_finding.Tie as tie
+use Rattle.answers.proofs.put_finding.Statement.{statement}
+use Rattle.answers.proofs.put_finding.Tie as tie
 
 returns : tie.Need-returns
 returns c = rw (c .before .before .before .before .enum-told .given .1) (record { number = c .put-refusal .ensures .0; kind = c .put-refusal .ensures .1 .0; place = c .put-refusal .ensures .1 .1 })

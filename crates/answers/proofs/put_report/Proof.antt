@@ -1,8 +1,8 @@
 -- `put_report` meets its contract.
 use mathlib.Core.Path.{refl}
 use borrow.Author.Needs.{needs}
-use Rattle.yumbaqel.proofs.answers.put_report.Statement.{statement}
-use Rattle.yumbaqel.proofs.answers.put_report.Tie as tie
+use Rattle.answers.proofs.put_report.Statement.{statement}
+use Rattle.answers.proofs.put_report.Tie as tie
 
 returns : tie.Need-returns
 returns c = rw (c .before .before .before .before .before .answer .given .1) (record { number = c .put-refusal .ensures .0; kind = c .put-refusal .ensures .1 .0; place = c .put-refusal .ensures .1 .1 }, (refl, (refl, refl)))
