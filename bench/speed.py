@@ -1,6 +1,6 @@
 """Times program `river` beside the same job written in C, and prints the ratio.
 
-    python3 bench/speed.py [--river target/bin/river] [--archive target/staticlib/libyumbaqel.a] [--runs 7]
+    python3 bench/speed.py [--river target/bin/river] [--archive target/staticlib/libyumbaqel.a] [--runs 15]
 
 bench/otis.h has document 01's arithmetic in C and bench/river.c the program; gcc -O3 compiles them. Both programs get the same
 sheets, must print the same bytes, and run in turn; the best of the runs counts. The step alone is timed by bench/steps.c, which calls
@@ -70,7 +70,7 @@ def main() -> None:
     words = argparse.ArgumentParser(description=__doc__.splitlines()[0])
     words.add_argument("--river", type=Path, default=ROOT / "target/bin/river")
     words.add_argument("--archive", type=Path, default=ROOT / "target/staticlib/libyumbaqel.a")
-    words.add_argument("--runs", type=int, default=7)
+    words.add_argument("--runs", type=int, default=15)
     given = words.parse_args()
 
     with tempfile.TemporaryDirectory() as name:
