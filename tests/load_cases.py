@@ -1,9 +1,9 @@
-"""The cases of program `loads`: sheets for the loader, and the answers and lists that the model gives for them.
+"""The cases of program `cases`: sheets for a loading, and the answers and lists that the model gives for them.
 
-    python3 tests/load_cases.py            writes crates/loads/stdin and crates/loads/stdout
+    python3 tests/load_cases.py            writes crates/cases/stdin and crates/cases/stdout
     python3 tests/load_cases.py DIR OUT    the same for a folder of vectors (*.otr), as OUT.stdin and OUT.stdout
 
-A case has two fields in front of its sheet (see crates/loads/src/main.rt); the lists are lent full of sevens.
+A case has two fields in front of its sheet (see crates/cases/src/main.rt); the lists are lent full of sevens.
 """
 from __future__ import annotations
 
@@ -20,6 +20,7 @@ ROOM = 1_100                        # the length of the program's lists
 SEVEN = 7
 MOST_INPUT = 65_536                 # what the program reads
 RECORDS = model.MOST_REACHES
+CRATE = Path(__file__).resolve().parent.parent / "crates" / "cases"
 
 
 class Lent(NamedTuple):
@@ -107,8 +108,7 @@ def main(arguments: list[str]) -> int:
         cases = (Lent(path.read_bytes()) for path in sorted(Path(folder).glob("*.otr")))
         given, wanted = Path(out + ".stdin"), Path(out + ".stdout")
     else:
-        crate = Path(__file__).resolve().parent.parent / "crates" / "loads"
-        cases, given, wanted = chosen(), crate / "stdin", crate / "stdout"
+        cases, given, wanted = chosen(), CRATE / "stdin", CRATE / "stdout"
     print(write_cases(cases, given, wanted), "cases")
     return 0
 

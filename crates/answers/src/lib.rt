@@ -1,12 +1,13 @@
 // Answers, written for a C caller. Every store that rests on the answer is in a function of its own.
 ghost use mathlib.Core.Path.{_≡_};
 ghost use Rattle.terms.specs.Says.{placeSays, findingSays};
-ghost use Rattle.loader.specs.Says.{loadSays};
+ghost use Rattle.terms.specs.Lent.{entry, exit};
+ghost use Rattle.assembly.specs.Says.{loadSays};
 ghost use Rattle.boundary.specs.Says.{upstreamSays};
 ghost use Rattle.otis.specs.Says.{startSays, stepSays, reportSays};
 ghost use Rattle.answers.specs.Answers.{kindNumber, placeNumber, foundBy, handed, Told, loadedValues};
+use assembly::Load;
 use boundary::Upstream;
-use loader::Load;
 use otis::Report;
 use otis::Start;
 use otis::Step;
@@ -39,9 +40,9 @@ fn number_of(at: Place) -> u32
 
 // The three numbers of a refusal.
 fn put_refusal(refusal: u32, at: Place, number: &mut u32, kind: &mut u32, place: &mut u32)
-    ensures number { λ _. ⌜ now (number .exit) ≡ refusal ⌝ }
-    ensures kind { λ _. ⌜ now (kind .exit) ≡ kindNumber (placeSays at) ⌝ }
-    ensures place { λ _. ⌜ now (place .exit) ≡ placeNumber (placeSays at) ⌝ }
+    ensures number { λ _. ⌜ exit number ≡ refusal ⌝ }
+    ensures kind { λ _. ⌜ exit kind ≡ kindNumber (placeSays at) ⌝ }
+    ensures place { λ _. ⌜ exit place ≡ placeNumber (placeSays at) ⌝ }
 {
     *number = refusal;
     *kind = kind_of(at);
@@ -55,8 +56,8 @@ pub fn put_load(
     place: &mut u32,
     loaded: &mut [u32; 7],
 )
-    ensures told { λ _. ⌜ Told (foundBy (loadSays answer)) (now (number .exit)) (now (kind .exit)) (now (place .exit)) ⌝ }
-    ensures values { λ _. ⌜ now (loaded .exit) ≡ handed (loadSays answer) loadedValues (now (loaded .entry)) ⌝ }
+    ensures told { λ _. ⌜ Told (foundBy (loadSays answer)) (exit number) (exit kind) (exit place) ⌝ }
+    ensures values { λ _. ⌜ exit loaded ≡ handed (loadSays answer) loadedValues (entry loaded) ⌝ }
 {
     match answer {
         Load::Loaded(v) => {
@@ -83,9 +84,9 @@ pub fn put_start(
     upstream: &mut u32,
     done: &mut u32,
 )
-    ensures told { λ _. ⌜ Told (foundBy (startSays answer)) (now (number .exit)) (now (kind .exit)) (now (place .exit)) ⌝ }
-    ensures upstream { λ _. ⌜ now (upstream .exit) ≡ handed (startSays answer) (λ v. v .upstream) (now (upstream .entry)) ⌝ }
-    ensures done { λ _. ⌜ now (done .exit) ≡ handed (startSays answer) (λ v. v .steps) (now (done .entry)) ⌝ }
+    ensures told { λ _. ⌜ Told (foundBy (startSays answer)) (exit number) (exit kind) (exit place) ⌝ }
+    ensures upstream { λ _. ⌜ exit upstream ≡ handed (startSays answer) (λ v. v .upstream) (entry upstream) ⌝ }
+    ensures done { λ _. ⌜ exit done ≡ handed (startSays answer) (λ v. v .steps) (entry done) ⌝ }
 {
     match answer {
         Start::Started(river) => {
@@ -105,9 +106,9 @@ pub fn put_step(
     upstream: &mut u32,
     done: &mut u32,
 )
-    ensures told { λ _. ⌜ Told (foundBy (stepSays answer)) (now (number .exit)) (now (kind .exit)) (now (place .exit)) ⌝ }
-    ensures upstream { λ _. ⌜ now (upstream .exit) ≡ handed (stepSays answer) (λ v. v .upstream) (now (upstream .entry)) ⌝ }
-    ensures done { λ _. ⌜ now (done .exit) ≡ handed (stepSays answer) (λ v. v .steps) (now (done .entry)) ⌝ }
+    ensures told { λ _. ⌜ Told (foundBy (stepSays answer)) (exit number) (exit kind) (exit place) ⌝ }
+    ensures upstream { λ _. ⌜ exit upstream ≡ handed (stepSays answer) (λ v. v .upstream) (entry upstream) ⌝ }
+    ensures done { λ _. ⌜ exit done ≡ handed (stepSays answer) (λ v. v .steps) (entry done) ⌝ }
 {
     match answer {
         Step::Stepped(river) => {
@@ -128,10 +129,10 @@ pub fn put_report(
     z: &mut u32,
     kdw: &mut u64,
 )
-    ensures told { λ _. ⌜ Told (foundBy (reportSays answer)) (now (number .exit)) (now (kind .exit)) (now (place .exit)) ⌝ }
-    ensures c { λ _. ⌜ now (c .exit) ≡ handed (reportSays answer) (λ v. v .channel) (now (c .entry)) ⌝ }
-    ensures z { λ _. ⌜ now (z .exit) ≡ handed (reportSays answer) (λ v. v .storage) (now (z .entry)) ⌝ }
-    ensures kdw { λ _. ⌜ now (kdw .exit) ≡ handed (reportSays answer) (λ v. v .sediment) (now (kdw .entry)) ⌝ }
+    ensures told { λ _. ⌜ Told (foundBy (reportSays answer)) (exit number) (exit kind) (exit place) ⌝ }
+    ensures c { λ _. ⌜ exit c ≡ handed (reportSays answer) (λ v. v .channel) (entry c) ⌝ }
+    ensures z { λ _. ⌜ exit z ≡ handed (reportSays answer) (λ v. v .storage) (entry z) ⌝ }
+    ensures kdw { λ _. ⌜ exit kdw ≡ handed (reportSays answer) (λ v. v .sediment) (entry kdw) ⌝ }
 {
     match answer {
         Report::Reported(figures) => {
@@ -151,8 +152,8 @@ pub fn put_upstream(
     place: &mut u32,
     u: &mut u32,
 )
-    ensures told { λ _. ⌜ Told (foundBy (upstreamSays answer)) (now (number .exit)) (now (kind .exit)) (now (place .exit)) ⌝ }
-    ensures u { λ _. ⌜ now (u .exit) ≡ handed (upstreamSays answer) (λ v. v) (now (u .entry)) ⌝ }
+    ensures told { λ _. ⌜ Told (foundBy (upstreamSays answer)) (exit number) (exit kind) (exit place) ⌝ }
+    ensures u { λ _. ⌜ exit u ≡ handed (upstreamSays answer) (λ v. v) (entry u) ⌝ }
 {
     match answer {
         Upstream::Figure(figure) => {
@@ -165,7 +166,7 @@ pub fn put_upstream(
 
 // A call that hands out no value.
 pub fn put_finding(found: Finding, number: &mut u32, kind: &mut u32, place: &mut u32)
-    ensures { λ _. ⌜ Told (findingSays found) (now (number .exit)) (now (kind .exit)) (now (place .exit)) ⌝ }
+    ensures { λ _. ⌜ Told (findingSays found) (exit number) (exit kind) (exit place) ⌝ }
 {
     match found {
         Finding::Passes => put_refusal(0, Place::Nothing, number, kind, place),

@@ -9,10 +9,11 @@ ghost use Rattle.model.specs.Refusals.{first};
 ghost use Rattle.model.specs.Load.{rowFault};
 ghost use Rattle.model.specs.Upstream.{upstreamAt, upstreamTests, upstreamAnswer};
 ghost use Rattle.terms.specs.Says.{findingSays};
+ghost use Rattle.terms.specs.Lent.{entry};
 ghost use Rattle.lists.specs.Lists.{lowest};
 ghost use Rattle.boundary.specs.Says.{upstreamSays};
 use crate::Upstream;
-use judge::limits::outside;
+use calltests::limits::outside;
 use sheet::faults::row_fault;
 use terms::Finding;
 use terms::Place;
@@ -20,7 +21,7 @@ use terms::Place;
 // The lowest row at fault, counting from 0, or the count of rows.
 fn row_at_fault(starts: &[u32], concentrations: &[u32], steps: u32) -> usize
     requires { ⌜ (length (now starts) ≤ length (now concentrations)) × (length (now starts) ≤ 256) ⌝ }
-    ensures { λ r. ⌜ r ≡ lowest (length (now (starts .entry))) (rowFault steps (now (starts .entry)) (now (concentrations .entry))) ⌝ }
+    ensures { λ r. ⌜ r ≡ lowest (length (entry starts)) (rowFault steps (entry starts) (entry concentrations)) ⌝ }
 {
     let mut before: u32 = 0;
     let mut i: usize = 0;
@@ -44,7 +45,7 @@ fn latest(j: u32, found: u32, start: u32, concentration: u32) -> u32
 // "that of the last row starting at or before j"
 fn last_started(starts: &[u32], concentrations: &[u32], j: u32) -> u32
     requires { ⌜ length (now starts) ≤ length (now concentrations) ⌝ }
-    ensures { λ r. ⌜ r ≡ upstreamAt j (now (starts .entry)) (now (concentrations .entry)) ⌝ }
+    ensures { λ r. ⌜ r ≡ upstreamAt j (entry starts) (entry concentrations) ⌝ }
 {
     let mut found: u32 = 0;
     let mut i: usize = 0;
@@ -66,8 +67,8 @@ fn count_fault(starts: usize, concentrations: usize) -> bool
 }
 
 // "It tests their count (3, also for two lists of different length), then the rows (8)."
-fn judge(starts: &[u32], concentrations: &[u32], steps: u32) -> Finding
-    ensures { λ r. ⌜ findingSays r ≡ first (upstreamTests steps (now (starts .entry)) (now (concentrations .entry))) ⌝ }
+fn rows_test(starts: &[u32], concentrations: &[u32], steps: u32) -> Finding
+    ensures { λ r. ⌜ findingSays r ≡ first (upstreamTests steps (entry starts) (entry concentrations)) ⌝ }
 {
     if count_fault(starts.len(), concentrations.len()) {
         return Finding::Fails(3, Place::Nothing);
@@ -81,9 +82,9 @@ fn judge(starts: &[u32], concentrations: &[u32], steps: u32) -> Finding
 
 // U at step j of the rows, for M steps.
 pub fn upstream(starts: &[u32], concentrations: &[u32], steps: u32, j: u32) -> Upstream
-    ensures { λ r. ⌜ upstreamSays r ≡ upstreamAnswer steps j (now (starts .entry)) (now (concentrations .entry)) ⌝ }
+    ensures { λ r. ⌜ upstreamSays r ≡ upstreamAnswer steps j (entry starts) (entry concentrations) ⌝ }
 {
-    let found = judge(starts, concentrations, steps);
+    let found = rows_test(starts, concentrations, steps);
     match found {
         Finding::Passes => Upstream::Figure(last_started(starts, concentrations, j)),
         Finding::Fails(number, place) => Upstream::Refused(number, place),

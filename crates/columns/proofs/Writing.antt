@@ -13,7 +13,7 @@ use Rattle.model.specs.HalfStep.{Segment, loadedSegment}
 use Rattle.model.specs.HalfStep as HalfStep
 use Rattle.model.specs.State.{Columns, loadedSegments, writeSegments}
 use Rattle.terms.specs.Says.{reachSays}
-use Rattle.terms.specs.Lent.{columns, segment, Long}
+use Rattle.terms.specs.Lent.{plain, segment, columns, Long}
 use Rattle.terms.specs.declared.Reach.{Reach}
 use Rattle.halfstep.specs.Site.{numbersSay}
 use Rattle.halfstep.specs.declared.Numbers.{Numbers}
@@ -63,7 +63,7 @@ turn r h l e = filling-turn r (omega arith) e
 pub writing-turn : {course : Course} {before lists : Columns} {i n : ℕ} {x : Segment} → Writing course before i lists → Long n before → i < n →
     x ≡ loadedSegment course i →
     Writing course before (i + 1)
-    (columns
+    (columns plain
     (set (lists .e) i (x .numbers .e))
     (set (lists .g) i (x .numbers .g))
     (set (lists .l) i (x .numbers .l))

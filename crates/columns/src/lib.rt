@@ -5,10 +5,10 @@ ghost use lib.Dec.{ltb};
 ghost use Rattle.lists.specs.Lists.{anyShorter};
 ghost use Rattle.model.specs.Flow.{courseOf};
 ghost use Rattle.model.specs.State.{columnLists, loadedSegments, writeSegments};
-ghost use Rattle.terms.specs.Lent.{columns, Long};
+ghost use Rattle.terms.specs.Lent.{entry, exit, columns, Long};
 ghost use Rattle.course.specs.Segments.{Clear, Read};
 use course::site;
-use halfstep::walk::Cursor;
+use halfstep::descent::Cursor;
 use sheet::fields::dx;
 use sheet::fields::reach;
 
@@ -40,9 +40,7 @@ pub fn any_short(
     kd: &[u32],
     start: &[u32],
 ) -> bool
-    ensures { λ r. ⌜ r ≡ anyShorter n (columnLists (columns (now (e .entry)) (now (g .entry)) (now (l .entry)) (now (a .entry)) (now (b .entry))
-        (now (k .entry)) (now (ks .entry)) (now (h .entry)) (now (m .entry)) (now (s .entry)) (now (cl .entry)) (now (cb .entry)) (now (kd .entry))
-        (now (start .entry)))) ⌝ }
+    ensures { λ r. ⌜ r ≡ anyShorter n (columnLists (columns entry e g l a b k ks h m s cl cb kd start)) ⌝ }
 {
     short(
         n,
@@ -118,13 +116,9 @@ pub fn fill(
     kd: &mut [u32],
     start: &mut [u32],
 )
-    requires { ⌜ Read (now sheet) n × Clear 13 n (courseOf (now sheet)) × Long n (columns (now e) (now g) (now l) (now a) (now b) (now k) (now ks)
-        (now h) (now m) (now s) (now cl) (now cb) (now kd) (now start)) ⌝ }
-    ensures { λ r. ⌜ columns (now (e .exit)) (now (g .exit)) (now (l .exit)) (now (a .exit)) (now (b .exit)) (now (k .exit)) (now (ks .exit))
-        (now (h .exit)) (now (m .exit)) (now (s .exit)) (now (cl .exit)) (now (cb .exit)) (now (kd .exit)) (now (start .exit)) ≡ writeSegments
-        (loadedSegments (now (sheet .entry))) (columns (now (e .entry)) (now (g .entry)) (now (l .entry)) (now (a .entry)) (now (b .entry))
-        (now (k .entry)) (now (ks .entry)) (now (h .entry)) (now (m .entry)) (now (s .entry)) (now (cl .entry)) (now (cb .entry)) (now (kd .entry))
-        (now (start .entry))) ⌝ }
+    requires { ⌜ Read (now sheet) n × Clear 13 n (courseOf (now sheet)) × Long n (columns now e g l a b k ks h m s cl cb kd start) ⌝ }
+    ensures { λ r. ⌜ columns exit e g l a b k ks h m s cl cb kd start ≡ writeSegments (loadedSegments (entry sheet))
+        (columns entry e g l a b k ks h m s cl cb kd start) ⌝ }
 {
     let step = dx(sheet);
     let mut at = Cursor::start(reach(sheet, 0));

@@ -1,4 +1,4 @@
--- What a sheet that tests 1 to 9 pass gives the walk down its river, and tests 10 to 12 of a segment by itself.
+-- What a sheet that tests 1 to 9 pass gives the descent of its river, and tests 10 to 12 of a segment by itself.
 use mathlib.Core.Bool.{false, cond}
 use mathlib.Core.List.{List}
 use mathlib.Core.Path.{_≡_, refl, sym, ap, _∙_}
@@ -15,13 +15,13 @@ use Rattle.model.specs.Load.{sumFault}
 use Rattle.terms.specs.Says.{reachSays}
 use Rattle.terms.specs.declared.Reach as Code
 use Rattle.halfstep.specs.Ranges.{InRange}
-use Rattle.halfstep.specs.Walk.{reachNo, atTop, reachBelow, further, cursorAt, Walks}
+use Rattle.halfstep.specs.Descent.{reachNo, atTop, reachBelow, further, cursorAt, Descends}
 use Rattle.halfstep.specs.Site.{siteOf, flowFaultOf, faceFaultOf, numbersOf, Passes, StandFor}
 use Rattle.halfstep.specs.declared.Site.{Site}
-use Rattle.halfstep.specs.declared.walk.Cursor.{Cursor}
-use Rattle.halfstep.proofs.Walking.{Along}
+use Rattle.halfstep.specs.declared.descent.Cursor.{Cursor}
+use Rattle.halfstep.proofs.Descending.{Along}
 use Rattle.halfstep.proofs.Sites.{flow-fault-at, face-fault-at, numbers-at}
-use Rattle.halfstep.proofs.Segments.{Sited, Walked, walked-top, known-at, walks-at, walked-next, below-at, sited}
+use Rattle.halfstep.proofs.Segments.{Sited, Descended, descended-top, known-at, descends-at, descended-next, below-at, sited}
 use Rattle.sheet.proofs.Passed.{ReachWithin, passed}
 use Rattle.course.specs.Segments.{courseFault, siteFault, Clear, ClearSite, Read, IsSegment}
 
@@ -63,7 +63,7 @@ along {sheet} {n} r =
 pub few : {sheet : List ℕ} {n : ℕ} → Read sheet n → n ≤ 1024
 few {sheet} r = omega (arith, r .count, passed sheet (r .passed) .segments .high)
 
--- where the walk stands is a segment of the river
+-- where the descent stands is a segment of the river
 pub is-segment : {course : Course} {i : ℕ} {site : Site} → Sited course i site → IsSegment course i site
 is-segment s = record {
   fields = s .fields;
@@ -111,32 +111,32 @@ some-reach : {sheet : List ℕ} {n : ℕ} → Read sheet n → 0 < length (reach
 unfolding reaches
 some-reach {sheet} r = rw length-tab (passed sheet (r .passed) .reachCounts .low)
 
--- a walk that starts at the top
-pub walked-start : {sheet : List ℕ} {n : ℕ} {first : Code.Reach} {at : Cursor} → Read sheet n → reachSays first ≡ reachOn sheet 0 →
-    at ≡ atTop (reachSays first) → Walked (reaches sheet) (courseOf sheet) 0 at
-walked-start {sheet} r is e = record { same = e ∙ walked-top {course = courseOf sheet} (is ∙ reach-at sheet 0 (some-reach r)) .same }
+-- a descent that starts at the top
+pub descended-start : {sheet : List ℕ} {n : ℕ} {first : Code.Reach} {at : Cursor} → Read sheet n → reachSays first ≡ reachOn sheet 0 →
+    at ≡ atTop (reachSays first) → Descended (reaches sheet) (courseOf sheet) 0 at
+descended-start {sheet} r is e = record { same = e ∙ descended-top {course = courseOf sheet} (is ∙ reach-at sheet 0 (some-reach r)) .same }
 
 -- the cursor of segment i
-pub stood : (sheet : List ℕ) (i : ℕ) (at : Cursor) → at ≡ cursorAt (reaches sheet) (dx sheet) i → Walked (reaches sheet) (courseOf sheet) i at
+pub stood : (sheet : List ℕ) (i : ℕ) (at : Cursor) → at ≡ cursorAt (reaches sheet) (dx sheet) i → Descended (reaches sheet) (courseOf sheet) i at
 unfolding courseOf
 stood sheet i at e = record { same = e }
 
 -- and back
-pub stands : (sheet : List ℕ) (i : ℕ) (at : Cursor) → Walked (reaches sheet) (courseOf sheet) i at → at ≡ cursorAt (reaches sheet) (dx sheet) i
+pub stands : (sheet : List ℕ) (i : ℕ) (at : Cursor) → Descended (reaches sheet) (courseOf sheet) i at → at ≡ cursorAt (reaches sheet) (dx sheet) i
 unfolding courseOf
 stands sheet i at w = w .same
 
--- the walk stands at segment i
-module _ {sheet : List ℕ} {n i : ℕ} {at : Cursor} (r : Read sheet n) (h : i < n) (w : Walked (reaches sheet) (courseOf sheet) i at) where
+-- the descent stands at segment i
+module _ {sheet : List ℕ} {n i : ℕ} {at : Cursor} (r : Read sheet n) (h : i < n) (w : Descended (reaches sheet) (courseOf sheet) i at) where
   module _ {own : Code.Reach} (is : reachSays own ≡ reachOn sheet (at .reach)) where
     -- the reach that was read is the segment's
     own-read : reachSays own ≡ reachNo (reaches sheet) (at .reach)
     own-read = is ∙ reach-at sheet (at .reach) (known-at (along r) h w .stands .known)
 
-    -- the walk can go on
-    pub walks-read : Walks (dx sheet) (reachSays own) at
+    -- the descent can go on
+    pub descends-read : Descends (dx sheet) (reachSays own) at
     unfolding courseOf
-    walks-read = walks-at (along r) h w own-read
+    descends-read = descends-at (along r) h w own-read
 
     -- the segment, from its reach and the one below
     pub site-read : {below : Code.Reach} (b : ℕ) → b ≡ cond (eqb (i + 1) n) (at .reach) (reachBelow (reachSays own) at) → reachSays below ≡ reachOn sheet b →
@@ -153,14 +153,14 @@ module _ {sheet : List ℕ} {n i : ℕ} {at : Cursor} (r : Read sheet n) (h : i 
     own-here : reachSays (site .own) ≡ reachNo (reaches sheet) (at .reach)
     own-here = sym (s .own) ∙ known-at (along r) h w .own
 
-    pub walks-here : Walks step (reachSays (site .own)) at
+    pub descends-here : Descends step (reachSays (site .own)) at
     unfolding courseOf
-    walks-here = rw d (walks-at (along r) h w own-here)
+    descends-here = rw d (descends-at (along r) h w own-here)
 
     -- one segment further
-    pub walked-here : {next : Cursor} → next ≡ further step (reachSays (site .own)) at → Walked (reaches sheet) (courseOf sheet) (i + 1) next
+    pub descended-here : {next : Cursor} → next ≡ further step (reachSays (site .own)) at → Descended (reaches sheet) (courseOf sheet) (i + 1) next
     unfolding courseOf
-    walked-here e = record { same = e ∙ rw d (walked-next (along r) h w own-here .same) }
+    descended-here e = record { same = e ∙ rw d (descended-next (along r) h w own-here .same) }
 
 -- which test a number names
 module _ (number : ℕ) (site : Site) where

@@ -5,10 +5,11 @@ ghost use Rattle.model.specs.Sheet.{dx, reaches};
 ghost use Rattle.model.specs.Flow.{courseOf};
 ghost use Rattle.model.specs.Refusals.{segment, testEach};
 ghost use Rattle.terms.specs.Says.{findingSays};
-ghost use Rattle.halfstep.specs.Walk.{cursorAt};
+ghost use Rattle.terms.specs.Lent.{entry};
+ghost use Rattle.halfstep.specs.Descent.{cursorAt};
 ghost use Rattle.course.specs.Segments.{courseFault, siteFault, Clear, ClearSite, Read, IsSegment};
 use halfstep::Site;
-use halfstep::walk::Cursor;
+use halfstep::descent::Cursor;
 use sheet::fields::dt;
 use sheet::fields::dx;
 use sheet::fields::reach;
@@ -16,10 +17,10 @@ use sheet::fields::top_flow;
 use terms::Finding;
 use terms::Place;
 
-// Segment i of n, where the walk down the river stands.
+// Segment i of n, where the descent of the river stands.
 pub fn site(sheet: &[u8], at: Cursor, n: usize, i: usize) -> Site
     requires { ⌜ Read (now sheet) n × (i < n) × (at ≡ cursorAt (reaches (now sheet)) (dx (now sheet)) i) ⌝ }
-    ensures { λ r. ⌜ IsSegment (courseOf (now (sheet .entry))) i r ⌝ }
+    ensures { λ r. ⌜ IsSegment (courseOf (entry sheet)) i r ⌝ }
 {
     let own = reach(sheet, at.reach as usize);
     let last = i + 1 == n;
@@ -44,7 +45,7 @@ fn fault(number: u32, site: Site) -> bool
 // Test 10, 11 or 12 over the whole river: "the lowest at fault".
 pub fn course_test(sheet: &[u8], n: usize, number: u32) -> Finding
     requires { ⌜ Read (now sheet) n × (10 ≤ number) × Clear number n (courseOf (now sheet)) ⌝ }
-    ensures { λ r. ⌜ findingSays r ≡ testEach number segment n (courseFault number (courseOf (now (sheet .entry)))) ⌝ }
+    ensures { λ r. ⌜ findingSays r ≡ testEach number segment n (courseFault number (courseOf (entry sheet))) ⌝ }
 {
     let step = dx(sheet);
     let mut at = Cursor::start(reach(sheet, 0));

@@ -15,7 +15,8 @@ use Rattle.stability.proofs.Passes.{first}
 use Rattle.stability.proofs.Solves.{Solves, Near}
 use Rattle.exact.proofs.Sides.{each-trans, below}
 use Rattle.exact.proofs.Rivers.{last, next, LeftUpTo, RightUpTo, SolvesUpTo}
-use Rattle.exact.proofs.Defect.{defect, wholes, row-over, rights-over}
+use Rattle.exact.specs.Close.{defect}
+use Rattle.exact.proofs.Defect.{wholes, row-over, rights-over}
 
 -- the new figures that the channel figures cs give, uncut
 abbrev pub uncut : List Pair → List Figures → List ℕ → List Figures

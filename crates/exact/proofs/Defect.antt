@@ -15,6 +15,7 @@ use Rattle.model.specs.TwoSets.{Pair, pairChannel, pairStorage, pairSediment, p
 use Rattle.stability.specs.Accepted.{Sums}
 use Rattle.stability.proofs.Accepted.{storage-quotient, sediment-quotient}
 use Rattle.stability.proofs.Solves.{Solves}
+use Rattle.exact.specs.Close.{defect}
 use Rattle.exact.proofs.Sides.{Differences, EachUpTo, left, right}
 
 -- What the channel gives to a store: the quotient q of F and the store's P against the store's new figure z. r is the store's right
@@ -27,10 +28,6 @@ module _ (t b o a r c q P z : ℕ) (split : t ≡ b + o) (pos : 0 < t) (hq : Rou
 
   exchange-low : 2 * (q * c + a * z) ≤ 2 * (a * c + a * P) + c + 2 * a
   exchange-low = le-of-mul-le-mul-left (omega (arith, by c hq, by a hP, by a hz, times (a * c) split)) pos
-
--- the defect of a row, per unit of its denominator
-abbrev pub defect : ℕ
-defect = 6 * S
 
 -- The channel's equation: c with xa above and xb below, and the stores' figures z and w. The quotients of F are q₁ and q₂, r is the
 -- channel's right side.

@@ -18,8 +18,8 @@ use Rattle.model.specs.ExactRiver.{ExactFigures, Along}
 use Rattle.stability.specs.Accepted.{Accepted, AtMost}
 use Rattle.stability.proofs.Accepted.{All, figures-most, rows-fit}
 use Rattle.stability.proofs.Solves.{Near, sweep-solves}
-use Rattle.exact.specs.PairEquations.{PairSolves}
-use Rattle.exact.specs.Close.{FiguresInRange, FiguresClose, Close}
+use Rattle.exact.specs.PairEquations.{PairSolves, PairStep}
+use Rattle.exact.specs.Close.{perStep, FiguresInRange, FiguresClose, Close}
 use Rattle.exact.proofs.Sides.{Differences, EachUpTo, AllUpTo, Steady, steady, right-up-to}
 use Rattle.exact.proofs.Comparison.{store-follows}
 use Rattle.exact.proofs.CommonDenominator.{FiguresOver, AllOver, common, split}
@@ -53,8 +53,8 @@ module _ (D c : ℕ) {k : ℕ} {d : Difference} where
 figures-step : {D E : ℕ} (c : ℕ) (x : Pair) {f : Figures} {q q′ : ExactFigures} {o n : Differences} {a′ b′ a b : Difference} →
     0 < D → Accepted x → FiguresClose E f q → FiguresOver D q o → FiguresOver D q′ n → FiguresInRange q′ →
     LeftUpTo D 0 x a′ b′ a b o n → RightUpTo D 0 x a′ b′ a b o n →
-    UpTo ((E + 6) * D) (natural (c * D)) (n .c) → UpTo ((E + 6) * D) (n .c) (natural (c * D)) →
-    FiguresClose (E + 6) (pairFigures x f (clamp c)) q′
+    UpTo ((E + perStep) * D) (natural (c * D)) (n .c) → UpTo ((E + perStep) * D) (n .c) (natural (c * D)) →
+    FiguresClose (E + perStep) (pairFigures x f (clamp c)) q′
 unfolding pairFigures
 figures-step {D} {E} c x {f} {a} {b} h ok close old new range leftRow rightRow high low =
     let n = x .new in
@@ -66,15 +66,15 @@ figures-step {D} {E} c x {f} {a} {b} h ok close old new range leftRow rightRow h
     let w = sediment-over D x f (ok .new) (clamp c) in
     let c-high = cut-high D c high in
     let c-low = cut-low D c (most-up-to h (new .c) highest (range .c .most)) low in
-    let bound = S * ((E + 6) * D) in
+    let bound = S * ((E + perStep) * D) in
     record {
       most = figures-most x f ok (close .most) (clamp c) (min-le-right c highest);
       range = range;
-      c = up-to-within h (new .c) (E + 6) (clamp c) c-high c-low;
-      z = up-to-within h (new .z) (E + 6) _
+      c = up-to-within h (new .c) (E + perStep) (clamp c) c-high c-low;
+      z = up-to-within h (new .z) (E + perStep) _
           (store-follows (S + sumV n) (n .b) (omega arith) c-high (up-to-chain bound (z .0) (r .0 .z) (more .z) (rightRow .each .z) (omega arith)))
           (store-follows (S + sumV n) (n .b) (omega arith) c-low (up-to-chain bound (leftRow .each .z) (less .z) (r .1 .z) (z .1) (omega arith)));
-      w = up-to-within h (new .w) (E + 6) _
+      w = up-to-within h (new .w) (E + perStep) _
           (store-follows (S + n .h) (n .h) (omega arith) c-high (up-to-chain bound (w .0) (r .0 .w) (more .w) (rightRow .each .w) (omega arith)))
           (store-follows (S + n .h) (n .h) (omega arith) c-low (up-to-chain bound (leftRow .each .w) (less .w) (r .1 .w) (w .1) (omega arith)));
     }
@@ -94,8 +94,8 @@ olds-over h (Close.cons close closes) (AllOver.cons over overs) =
 all-step : {D E : ℕ} (above : ℕ) {xa : ℕ} {a′ a : Difference} {xs : List Pair} {fs : List Figures} {cs : List ℕ} {old new : List ExactFigures}
     {os ns : List Differences} → 0 < D → Rows (LeftUpTo D 0) a′ a xs os ns → Rows (RightUpTo D 0) a′ a xs os ns → AllOver D old os →
     AllOver D new ns → Close E fs old → All FiguresInRange new → All Accepted xs → Near xa (rows pairRow above xs fs) cs →
-    AllUpTo ((E + 6) * D) (map (wholes D) (uncut xs fs cs)) ns → AllUpTo ((E + 6) * D) ns (map (wholes D) (uncut xs fs cs)) →
-    Close (E + 6) (finish pairFigures xs fs cs) new
+    AllUpTo ((E + perStep) * D) (map (wholes D) (uncut xs fs cs)) ns → AllUpTo ((E + perStep) * D) ns (map (wholes D) (uncut xs fs cs)) →
+    Close (E + perStep) (finish pairFigures xs fs cs) new
 unfolding pairFigures
 all-step above h last last AllOver.none AllOver.none Close.none All.none All.none Near.none AllUpTo.none AllUpTo.none = Close.none
 all-step above h (next l ls) (next r rs) (AllOver.cons o os) (AllOver.cons n ns) (Close.cons {f} close closes) (All.cons range ranges)
@@ -127,7 +127,7 @@ each (Along.next row rows) (Close.cons close closes) = Each.cons (each rows clos
 
 -- one step for an old and a new set of numbers
 pub pair-step : {E : ℕ} (u u′ : ℕ) {xs : List Pair} {fs : List Figures} {old new : List ExactFigures} → u ≤ highest → u′ ≤ highest →
-    All Accepted xs → Close E fs old → Along PairSolves (whole u′) (whole u) xs old new → Close (E + 6) (pairStepped u u′ xs fs) new
+    All Accepted xs → Close E fs old → PairStep u u′ xs old new → Close (E + perStep) (pairStepped u u′ xs fs) new
 unfolding pairStepped pairDownward
 pair-step {E} u u′ {xs} {fs} {old} {new} hu hu′ oks closes solves =
     let c = common (old ++ new) in
@@ -135,13 +135,13 @@ pair-step {E} u u′ {xs} {fs} {old} {new} hu hu′ oks closes solves =
     go (c .D) (c .above) (parts .0 .over) (parts .1 .over)
   where
     go : (D : ℕ) → 0 < D → {os ns : List Differences} → AllOver D old os → AllOver D new ns →
-        Close (E + 6) (finish pairFigures xs fs (up (down (top u′) (rows pairRow u xs fs)))) new
+        Close (E + perStep) (finish pairFigures xs fs (up (down (top u′) (rows pairRow u xs fs)))) new
     go D h os ns =
         let exact = exact-rows solves (over-whole D u′) (over-whole D u) os ns in
         let near = sweep-solves u′ (omega arith) (rows-fit u hu oks (mosts closes)) in
         let computed = computed-rows D u oks (each solves closes) near in
         let olds = olds-over h closes os in
-        let G = (E + 6) * D in
+        let G = (E + perStep) * D in
         let news = range oks (whole-in-range hu′) (whole-in-range hu) (ranges closes) solves in
         all-step u h (exact .0) (exact .1) os ns closes news oks near
         (apart G (steadies (E * D) oks) (computed .0) (exact .1) (up-to-self G _) (up-to-self (E * D) _) (olds .0) (omega arith))

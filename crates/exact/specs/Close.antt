@@ -4,10 +4,19 @@ use Prim.Native.Nat.{ℕ, _*_}
 use lib.IntN.{pos}
 use lib.Signed.{_≤ℤ_}
 use Rattle.fractions.specs.Fractions.{Fraction, Within}
+use Rattle.rounding.specs.Nearest.{S}
 use Rattle.model.specs.Ranges.{highest}
 use Rattle.model.specs.Equations.{Figures}
 use Rattle.model.specs.ExactRiver.{ExactFigures}
 use Rattle.stability.specs.Accepted.{AtMost}
+
+-- how far the roundings of a step take a figure, at most
+abbrev pub perStep : ℕ
+perStep = 6
+
+-- and its defect: by how much, at most, the computed figures miss the equations of their segment, which have S for one
+abbrev pub defect : ℕ
+defect = perStep * S
 
 -- a fraction is in the range of concentrations, 0 to 1,000,000,000
 pub record InRange (f : Fraction) : Type 0 where

@@ -3,6 +3,6 @@ pub mod Signed
 pub mod Sums
 pub mod Sites
 pub mod River
-pub mod Walking
+pub mod Descending
 pub mod Segments
 pub mod Course

@@ -7,7 +7,7 @@ use native.Mathlib.Omega.{arith}
 use lib.ListN.{length, getD, take, replicate, length-append, length-replicate, getD-replicate, List·getD-append}
 use lib.Seq.{getD-append-add, take-nil}
 use Rattle.model.specs.Sheet.{Reach, totalSegments, alongRiver}
-use Rattle.halfstep.specs.Walk.{reachNo}
+use Rattle.halfstep.specs.Descent.{reachNo}
 
 -- the river has as many segments as its reaches together
 pub river-length : (rs : List Reach) → length (alongRiver rs) ≡ totalSegments rs

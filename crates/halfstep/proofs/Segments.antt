@@ -1,4 +1,4 @@
--- One turn of a walk down the river: from the cursor at segment i and that segment's reach the calls give the next cursor, the reach
+-- One turn of a descent of the river: from the cursor at segment i and that segment's reach the calls give the next cursor, the reach
 -- below and the segment of the course.
 use mathlib.Core.Bool.{Bool, true, false, cond}
 use mathlib.Core.List.{List}
@@ -14,13 +14,13 @@ use Rattle.model.specs.Flow.{Course, flow}
 use Rattle.model.specs.HalfStep.{ad, isLast, adBelow}
 use Rattle.terms.specs.Says.{reachSays}
 use Rattle.terms.specs.declared.Reach.{Reach}
-use Rattle.halfstep.specs.Walk.{adOf, reachNo, atTop, reachBelow, further, cursorAt, Walks}
+use Rattle.halfstep.specs.Descent.{adOf, reachNo, atTop, reachBelow, further, cursorAt, Descends}
 use Rattle.halfstep.specs.Site.{flowOf, siteOf, Fields}
-use Rattle.halfstep.specs.declared.walk.Cursor.{Cursor}
+use Rattle.halfstep.specs.declared.descent.Cursor.{Cursor}
 use Rattle.halfstep.specs.declared.Site.{Site}
 use Rattle.halfstep.proofs.River.{river-length, before-ge}
 use Rattle.halfstep.proofs.Sites.{SiteAt, ad-le}
-use Rattle.halfstep.proofs.Walking.{Along, Known, known, stands-top}
+use Rattle.halfstep.proofs.Descending.{Along, Known, known, stands-top}
 
 -- reach number k is on the sheet, and its AD is x
 pub record Has (rs : List Sheet.Reach) (k x : ℕ) : Type 0 where
@@ -33,13 +33,13 @@ pub record Sited (course : Course) (i : ℕ) (site : Site) : Type 0 where
   pub fields : Fields site
 
 -- the cursor after i segments
-pub record Walked (rs : List Sheet.Reach) (course : Course) (i : ℕ) (at : Cursor) : Type 0 where
+pub record Descended (rs : List Sheet.Reach) (course : Course) (i : ℕ) (at : Cursor) : Type 0 where
   pub same : at ≡ cursorAt rs (course .dx) i
 
 -- at the top
-pub walked-top : {rs : List Sheet.Reach} {course : Course} {first : Reach} → reachSays first ≡ reachNo rs 0 → Walked rs course 0 (atTop (reachSays first))
+pub descended-top : {rs : List Sheet.Reach} {course : Course} {first : Reach} → reachSays first ≡ reachNo rs 0 → Descended rs course 0 (atTop (reachSays first))
 unfolding cursorAt
-walked-top is = record { same = ap atTop is }
+descended-top is = record { same = ap atTop is }
 
 module _ {n : ℕ} {rs : List Sheet.Reach} {course : Course} (river : Along n rs course) where
   -- the first reach is on the sheet
@@ -51,15 +51,15 @@ module _ {n : ℕ} {rs : List Sheet.Reach} {course : Course} (river : Along n rs
   unfolding isLast
   last-at i = rw (river .river, river-length, river .count, add-one)
 
-  module _ {i : ℕ} (h : i < n) {at : Cursor} (w : Walked rs course i at) where
+  module _ {i : ℕ} (h : i < n) {at : Cursor} (w : Descended rs course i at) where
     -- what the cursor has
     pub known-at : Known rs course i at
     known-at = rw (w .same) (known river i h)
 
     module _ {own : Reach} (is : reachSays own ≡ reachNo rs (at .reach)) where
-      -- the walk can go on
-      pub walks-at : Walks (course .dx) (reachSays own) at
-      walks-at =
+      -- the descent can go on
+      pub descends-at : Descends (course .dx) (reachSays own) at
+      descends-at =
           let k = known-at in
           let reaches = before-ge rs (at .reach) (λ j q. river .ranges j q .segments) (omega (arith, k .stands .known)) in
           rw is
@@ -72,9 +72,9 @@ module _ {n : ℕ} {rs : List Sheet.Reach} {course : Course} (river : Along n rs
           })
 
       -- one segment more
-      pub walked-next : Walked rs course (i + 1) (further (course .dx) (reachSays own) at)
+      pub descended-next : Descended rs course (i + 1) (further (course .dx) (reachSays own) at)
       unfolding cursorAt
-      walked-next = record { same = rw (is, w .same, add-one) }
+      descended-next = record { same = rw (is, w .same, add-one) }
 
       -- the reach below, by whether the segment is the last
       below : (t : Bool) → eqb (i + 1) n ≡ t
@@ -90,7 +90,7 @@ module _ {n : ℕ} {rs : List Sheet.Reach} {course : Course} (river : Along n rs
       unfolding adBelow
       below-at = rw (← last-at i) (below (eqb (i + 1) n) refl)
 
-      -- the segment where the walk stands
+      -- the segment where the descent stands
       pub sited : {next : Reach} → reachSays next ≡ reachNo rs (cond (eqb (i + 1) n) (at .reach) (reachBelow (reachSays own) at))
           → Sited course i (siteOf (course .dt) (course .dx) (course .top) at own next (eqb (i + 1) n))
       unfolding siteOf flowOf flow

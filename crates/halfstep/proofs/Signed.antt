@@ -13,7 +13,7 @@ use mir.Syntax.{w64}
 use mir.Val.{SFits, toZ, ofZ}
 use mir.ValLaws.{toZ-ofZ}
 use Rattle.rounding.specs.Floor.{floorDiv}
-use Rattle.halfstep.specs.Walk.{shareOf}
+use Rattle.halfstep.specs.Descent.{shareOf}
 
 -- a signed number is held as its bits, and read back
 pub back : (z : ℤ) → mag z < 2 ^ 63 → toZ w64 (ofZ w64 z) ≡ z

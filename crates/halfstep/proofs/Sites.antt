@@ -14,7 +14,7 @@ use Rattle.model.specs.Load.{flowFault, faceFault}
 use Rattle.model.specs.Sheet.{Reach}
 use Rattle.halfstep.specs.Ranges.{InRange}
 use Rattle.terms.specs.Says.{reachSays}
-use Rattle.halfstep.specs.Walk.{adOf}
+use Rattle.halfstep.specs.Descent.{adOf}
 use Rattle.halfstep.specs.Site.{flowFaultOf, faceFaultOf, numbersOf, Fields, Passes, StandFor}
 use Rattle.halfstep.specs.declared.Site.{Site}
 use Rattle.lists.proofs.Shorter.{neither}

@@ -1,3 +1,3 @@
 pub mod Ranges
-pub mod Walk
+pub mod Descent
 pub mod Site

@@ -16,8 +16,8 @@ use Rattle.model.specs.Load.{sumFault}
 use Rattle.terms.specs.Says.{reachSays}
 use Rattle.terms.specs.declared.Reach.{Reach}
 use Rattle.halfstep.specs.Ranges.{InRange, Steps}
-use Rattle.halfstep.specs.Walk.{adOf}
-use Rattle.halfstep.specs.declared.walk.Cursor.{Cursor}
+use Rattle.halfstep.specs.Descent.{adOf}
+use Rattle.halfstep.specs.declared.descent.Cursor.{Cursor}
 use Rattle.halfstep.specs.declared.Site.{Site}
 use Rattle.halfstep.specs.declared.Numbers.{Numbers}
 
@@ -25,7 +25,7 @@ use Rattle.halfstep.specs.declared.Numbers.{Numbers}
 unfoldable pub flowOf : ℕ → ℤ → ℤ
 flowOf top gain = pos top +ℤ floorDiv gain 100000
 
--- the segment where a walk stands; `below` is the reach of the segment below, of the last segment its own
+-- the segment where a descent stands; `below` is the reach of the segment below, of the last segment its own
 unfoldable pub siteOf : (dt dx top : ℕ) → Cursor → (own below : Reach) → Bool → Site
 siteOf dt dx top at own below last = record {
   own = own;

@@ -9,13 +9,13 @@ ghost use Rattle.model.specs.Ranges.{flows};
 ghost use Rattle.model.specs.Flow.{natural};
 ghost use Rattle.model.specs.HalfStep.{rateOf};
 ghost use Rattle.model.specs.Load.{sumFault};
-ghost use Rattle.halfstep.specs.Walk.{mostGain};
+ghost use Rattle.halfstep.specs.Descent.{mostGain};
 ghost use Rattle.halfstep.specs.Site.{flowOf, siteOf, flowFaultOf, faceFaultOf, numbersOf, cut, numbersSay, Fields, Passes, StandFor};
+use descent::Cursor;
 use rounding::signed;
 use terms::Reach;
-use walk::Cursor;
 
-pub mod walk;
+pub mod descent;
 
 // What the half-step numbers of a segment are worked out from: its reach, the AD above and below, its flow, whether it is the last
 // of the river, and the sheet's dt and dx.
@@ -73,7 +73,7 @@ fn discharge(flow: i64) -> u64
 fn rate(dt: u32, rate: u32) -> u32
     ensures { λ r. ⌜ r ≡ cut (rateOf dt rate) ⌝ }
 {
-    rounding::parts(walk::product(dt, rate), 2000000000)
+    rounding::parts(descent::product(dt, rate), 2000000000)
 }
 
 // 4 × A × dx².
@@ -81,7 +81,7 @@ fn face_divisor(area: u32, dx: u32) -> u64
     requires { ⌜ (1 ≤ area) × (area ≤ 10 ^ 6) × (1 ≤ dx) × (dx ≤ 10 ^ 4) ⌝ }
     ensures { λ r. ⌜ (r ≡ 4 * area * (dx * dx)) × (0 < r) ⌝ }
 {
-    4 * (area as u64) * walk::product(dx, dx)
+    4 * (area as u64) * descent::product(dx, dx)
 }
 
 // dt × x / d, where x is what crosses a face of the segment.
@@ -97,7 +97,7 @@ fn inflow(dt: u32, qin: u32, area: u32) -> u32
     requires { ⌜ 1 ≤ area ⌝ }
     ensures { λ r. ⌜ r ≡ cut (parts (dt * qin) (2 * 10 ^ 5 * area)) ⌝ }
 {
-    rounding::parts(walk::product(dt, qin), 200000 * (area as u64))
+    rounding::parts(descent::product(dt, qin), 200000 * (area as u64))
 }
 
 // dt × ALPHA × A / (2 × 10⁹ × AS).
@@ -106,7 +106,7 @@ fn exchange(dt: u32, alpha: u32, area: u32, area2: u32) -> u32
     ensures { λ r. ⌜ r ≡ cut (parts (dt * alpha * area) (2 * 10 ^ 9 * area2)) ⌝ }
 {
     rounding::parts(
-        walk::product(dt, alpha) * (area as u64),
+        descent::product(dt, alpha) * (area as u64),
         2000000000 * (area2 as u64),
     )
 }
@@ -121,13 +121,13 @@ fn sorption(dt: u32, lamhat: u32, rho: u32, kd: u32, h: u32) -> u32
         return 0;
     }
     rounding::parts(
-        walk::product(dt, lamhat) * (rho as u64) * (kd as u64),
+        descent::product(dt, lamhat) * (rho as u64) * (kd as u64),
         2000000000000000,
     )
 }
 
 impl Site {
-    // The segment where a walk stands; `below` is the reach of the segment below, of the last segment its own.
+    // The segment where a descent stands; `below` is the reach of the segment below, of the last segment its own.
     pub fn new(at: Cursor, own: Reach, below: Reach, last: bool, top: u32, dt: u32, dx: u32) -> Site
         requires { ⌜ natAbs (at .gain) ≤ mostGain ⌝ }
         ensures { λ r. ⌜ r ≡ siteOf dt dx top at own below last ⌝ }
@@ -135,7 +135,7 @@ impl Site {
         Site {
             own: own,
             above: at.above,
-            below: walk::ad(below),
+            below: descent::ad(below),
             flow: flow(top, at.gain),
             last: last,
             dt: dt,
@@ -167,7 +167,7 @@ impl Site {
         ensures { λ r. ⌜ r ≡ faceFaultOf self ⌝ }
     {
         let own = self.own;
-        walk::ad(own) + self.below < self.carried()
+        descent::ad(own) + self.below < self.carried()
     }
 
     // dt × (Q × dx + AD above + AD own) / (4 × A × dx²).
@@ -178,7 +178,7 @@ impl Site {
         let own = self.own;
         crossing(
             self.dt,
-            self.carried() + self.above + walk::ad(own),
+            self.carried() + self.above + descent::ad(own),
             face_divisor(own.area, self.dx),
         )
     }
@@ -194,7 +194,7 @@ impl Site {
         let own = self.own;
         crossing(
             self.dt,
-            walk::ad(own) + self.below - self.carried(),
+            descent::ad(own) + self.below - self.carried(),
             face_divisor(own.area, self.dx),
         )
     }

@@ -15,12 +15,12 @@ use contract.Monad.{fact, factI}
 use types.Kit.{Given, Item, ‵, raw, _⊛_, Step, step, prop, _$_, _∵_, !, qed, move, use1, split, fsplit, fjoin, feqL, frame, done}
 use denote.RattleType.{RattleType}
 use denote.Builtin.{u32}
-use denote.Ref.{RefT}
+use denote.Ref.{RefT, now}
 use denote.Slice.{sliceVal, MutSlice, Room, finally}
 use denote.Steps.{heard}
 use denote.Triple.Walked.{says}
 use Rattle.model.specs.State.{Columns}
-use Rattle.terms.specs.Lent.{columns}
+use Rattle.terms.specs.Lent.{plain, columns}
 
 -- the references, and lists as they stand at the end
 abbrev pub Refs : ℕ → Type 0
@@ -63,10 +63,10 @@ Same (suc n) z w = (length (w .0) ≡ length (z .0 .now)) × Same n (z .1) (w .1
 
 -- the fourteen lists of a loading, before and after
 abbrev pub before : Refs 14 → Columns
-before z = columns (z .0 .now) (z .1 .0 .now) (z .1 .1 .0 .now) (z .1 .1 .1 .0 .now) (z .1 .1 .1 .1 .0 .now) (z .1 .1 .1 .1 .1 .0 .now) (z .1 .1 .1 .1 .1 .1 .0 .now) (z .1 .1 .1 .1 .1 .1 .1 .0 .now) (z .1 .1 .1 .1 .1 .1 .1 .1 .0 .now) (z .1 .1 .1 .1 .1 .1 .1 .1 .1 .0 .now) (z .1 .1 .1 .1 .1 .1 .1 .1 .1 .1 .0 .now) (z .1 .1 .1 .1 .1 .1 .1 .1 .1 .1 .1 .0 .now) (z .1 .1 .1 .1 .1 .1 .1 .1 .1 .1 .1 .1 .0 .now) (z .1 .1 .1 .1 .1 .1 .1 .1 .1 .1 .1 .1 .1 .0 .now)
+before z = columns now (z .0) (z .1 .0) (z .1 .1 .0) (z .1 .1 .1 .0) (z .1 .1 .1 .1 .0) (z .1 .1 .1 .1 .1 .0) (z .1 .1 .1 .1 .1 .1 .0) (z .1 .1 .1 .1 .1 .1 .1 .0) (z .1 .1 .1 .1 .1 .1 .1 .1 .0) (z .1 .1 .1 .1 .1 .1 .1 .1 .1 .0) (z .1 .1 .1 .1 .1 .1 .1 .1 .1 .1 .0) (z .1 .1 .1 .1 .1 .1 .1 .1 .1 .1 .1 .0) (z .1 .1 .1 .1 .1 .1 .1 .1 .1 .1 .1 .1 .0) (z .1 .1 .1 .1 .1 .1 .1 .1 .1 .1 .1 .1 .1 .0)
 
 abbrev pub after : Lists 14 → Columns
-after w = columns (w .0) (w .1 .0) (w .1 .1 .0) (w .1 .1 .1 .0) (w .1 .1 .1 .1 .0) (w .1 .1 .1 .1 .1 .0) (w .1 .1 .1 .1 .1 .1 .0) (w .1 .1 .1 .1 .1 .1 .1 .0) (w .1 .1 .1 .1 .1 .1 .1 .1 .0) (w .1 .1 .1 .1 .1 .1 .1 .1 .1 .0) (w .1 .1 .1 .1 .1 .1 .1 .1 .1 .1 .0) (w .1 .1 .1 .1 .1 .1 .1 .1 .1 .1 .1 .0) (w .1 .1 .1 .1 .1 .1 .1 .1 .1 .1 .1 .1 .0) (w .1 .1 .1 .1 .1 .1 .1 .1 .1 .1 .1 .1 .1 .0)
+after w = columns plain (w .0) (w .1 .0) (w .1 .1 .0) (w .1 .1 .1 .0) (w .1 .1 .1 .1 .0) (w .1 .1 .1 .1 .1 .0) (w .1 .1 .1 .1 .1 .1 .0) (w .1 .1 .1 .1 .1 .1 .1 .0) (w .1 .1 .1 .1 .1 .1 .1 .1 .0) (w .1 .1 .1 .1 .1 .1 .1 .1 .1 .0) (w .1 .1 .1 .1 .1 .1 .1 .1 .1 .1 .0) (w .1 .1 .1 .1 .1 .1 .1 .1 .1 .1 .1 .0) (w .1 .1 .1 .1 .1 .1 .1 .1 .1 .1 .1 .1 .0) (w .1 .1 .1 .1 .1 .1 .1 .1 .1 .1 .1 .1 .1 .0)
 
 module _ {M : Type 1} (𝓤 : URA M) (H : Heap 𝓤) (A : Atoms 𝓤) (W : Given 𝓤 H A) where
   pub heard-last : (n : ℕ) (z : Refs n) (w : Lists n) → ent 𝓤 (sem 𝓤 H A (said n z w)) (sep 𝓤 (sem 𝓤 H A (last n z w)) (fact 𝓤 (Same n z w)))

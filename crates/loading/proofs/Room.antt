@@ -10,7 +10,7 @@ use Rattle.model.specs.Flow.{courseOf}
 use Rattle.model.specs.State.{Columns}
 use Rattle.model.specs.Refusals.{Finding, passes, fails, first}
 use Rattle.model.specs.Load.{loaded, sheetTests, courseTests, listTests, loadTests, loadAnswer}
-use Rattle.model.proofs.Refusals.{first-front, judge-fails}
+use Rattle.model.proofs.Refusals.{first-front, outcome-fails}
 use Rattle.sheet.proofs.Passed.{passed}
 
 pub room : (sheet : List ℕ) (columns : Columns) (records : ℕ) → 64 ≤ records → loadAnswer sheet 64 columns ≡ loadAnswer sheet records columns
@@ -27,5 +27,5 @@ room sheet columns records h = go (first (sheetTests sheet)) refl
         rw (le-ltb 64 (reachCount sheet) (omega arith), le-ltb records (reachCount sheet) (omega arith))
     go (fails number place) e =
         let f = first-front (sheetTests sheet) (courseTests (segmentCount sheet) (courseOf sheet)) e in
-        judge-fails (loadTests sheet 64 columns) (loaded sheet) (first-front front (listTests sheet 64 columns) f)
-        ∙ sym (judge-fails (loadTests sheet records columns) (loaded sheet) (first-front front (listTests sheet records columns) f))
+        outcome-fails (loadTests sheet 64 columns) (loaded sheet) (first-front front (listTests sheet 64 columns) f)
+        ∙ sym (outcome-fails (loadTests sheet records columns) (loaded sheet) (first-front front (listTests sheet records columns) f))

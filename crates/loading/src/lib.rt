@@ -5,10 +5,10 @@ ghost use Prim.Native.Nat.{ℕ, _≤_};
 ghost use lib.ListN.{length};
 ghost use Rattle.model.specs.Load.{loadAnswer, loadColumns, loadRecords};
 ghost use Rattle.terms.specs.Says.{reachSays};
-ghost use Rattle.terms.specs.Lent.{columns};
-ghost use Rattle.loader.specs.Says.{loadSays};
-use loader::Load;
-use loader::Loaded;
+ghost use Rattle.terms.specs.Lent.{entry, exit, columns};
+ghost use Rattle.assembly.specs.Says.{loadSays};
+use assembly::Load;
+use assembly::Loaded;
 use records::fill;
 use records::fill_count;
 use terms::Reach;
@@ -36,19 +36,13 @@ pub fn load(
     kd: &mut [u32],
     start: &mut [u32],
 ) -> Load
-    ensures answer { λ r. ⌜ loadSays r ≡ loadAnswer (now (sheet .entry)) (length (now (reaches .entry))) (columns (now (e .entry)) (now (g .entry))
-        (now (l .entry)) (now (a .entry)) (now (b .entry)) (now (k .entry)) (now (ks .entry)) (now (h .entry)) (now (m .entry)) (now (s .entry))
-        (now (cl .entry)) (now (cb .entry)) (now (kd .entry)) (now (start .entry))) ⌝ }
-    ensures lists { λ r. ⌜ columns (now (e .exit)) (now (g .exit)) (now (l .exit)) (now (a .exit)) (now (b .exit)) (now (k .exit)) (now (ks .exit))
-        (now (h .exit)) (now (m .exit)) (now (s .exit)) (now (cl .exit)) (now (cb .exit)) (now (kd .exit)) (now (start .exit)) ≡ loadColumns
-        (now (sheet .entry)) (length (now (reaches .entry))) (columns (now (e .entry)) (now (g .entry)) (now (l .entry)) (now (a .entry))
-        (now (b .entry)) (now (k .entry)) (now (ks .entry)) (now (h .entry)) (now (m .entry)) (now (s .entry)) (now (cl .entry)) (now (cb .entry))
-        (now (kd .entry)) (now (start .entry))) ⌝ }
-    ensures records { λ r. ⌜ map reachSays (now (reaches .exit)) ≡ loadRecords (now (sheet .entry)) (map reachSays (now (reaches .entry))) (columns
-        (now (e .entry)) (now (g .entry)) (now (l .entry)) (now (a .entry)) (now (b .entry)) (now (k .entry)) (now (ks .entry)) (now (h .entry))
-        (now (m .entry)) (now (s .entry)) (now (cl .entry)) (now (cb .entry)) (now (kd .entry)) (now (start .entry))) ⌝ }
+    ensures answer { λ r. ⌜ loadSays r ≡ loadAnswer (entry sheet) (length (entry reaches)) (columns entry e g l a b k ks h m s cl cb kd start) ⌝ }
+    ensures lists { λ r. ⌜ columns exit e g l a b k ks h m s cl cb kd start ≡ loadColumns (entry sheet) (length (entry reaches))
+        (columns entry e g l a b k ks h m s cl cb kd start) ⌝ }
+    ensures records { λ r. ⌜ map reachSays (exit reaches) ≡ loadRecords (entry sheet) (map reachSays (entry reaches))
+        (columns entry e g l a b k ks h m s cl cb kd start) ⌝ }
 {
-    let answer = Loaded::load(
+    let answer = Loaded::assemble(
         sheet,
         reaches.len(),
         e,
@@ -88,17 +82,11 @@ pub fn load_lists(
     kd: &mut [u32],
     start: &mut [u32],
 ) -> Load
-    ensures answer { λ r. ⌜ loadSays r ≡ loadAnswer (now (sheet .entry)) 64 (columns (now (e .entry)) (now (g .entry)) (now (l .entry))
-        (now (a .entry)) (now (b .entry)) (now (k .entry)) (now (ks .entry)) (now (h .entry)) (now (m .entry)) (now (s .entry)) (now (cl .entry))
-        (now (cb .entry)) (now (kd .entry)) (now (start .entry))) ⌝ }
-    ensures lists { λ r. ⌜ columns (now (e .exit)) (now (g .exit)) (now (l .exit)) (now (a .exit)) (now (b .exit)) (now (k .exit)) (now (ks .exit))
-        (now (h .exit)) (now (m .exit)) (now (s .exit)) (now (cl .exit)) (now (cb .exit)) (now (kd .exit)) (now (start .exit)) ≡ loadColumns
-        (now (sheet .entry)) 64 (columns (now (e .entry)) (now (g .entry)) (now (l .entry)) (now (a .entry)) (now (b .entry)) (now (k .entry))
-        (now (ks .entry)) (now (h .entry)) (now (m .entry)) (now (s .entry)) (now (cl .entry)) (now (cb .entry)) (now (kd .entry))
-        (now (start .entry))) ⌝ }
-    ensures room { λ r. ⌜ ((records : ℕ) → 64 ≤ records → loadSays r ≡ loadAnswer (now (sheet .entry)) records (columns (now (e .entry))
-        (now (g .entry)) (now (l .entry)) (now (a .entry)) (now (b .entry)) (now (k .entry)) (now (ks .entry)) (now (h .entry)) (now (m .entry))
-        (now (s .entry)) (now (cl .entry)) (now (cb .entry)) (now (kd .entry)) (now (start .entry)))) ⌝ }
+    ensures answer { λ r. ⌜ loadSays r ≡ loadAnswer (entry sheet) 64 (columns entry e g l a b k ks h m s cl cb kd start) ⌝ }
+    ensures lists { λ r. ⌜ columns exit e g l a b k ks h m s cl cb kd start ≡ loadColumns (entry sheet) 64
+        (columns entry e g l a b k ks h m s cl cb kd start) ⌝ }
+    ensures room { λ r. ⌜ ((records : ℕ) → 64 ≤ records → loadSays r ≡ loadAnswer (entry sheet) records
+        (columns entry e g l a b k ks h m s cl cb kd start)) ⌝ }
 {
     let mut reaches = [Reach {
         segments: 0,

@@ -8,7 +8,7 @@ use borrow.Author.Tests.{ltb-false, lt-ltb, le-ltb}
 use lib.Dec.{T, ltb}
 use Rattle.lists.specs.Lists.{lowest}
 use Rattle.lists.proofs.Lowest.{none-at-fault, lowest-end}
-use Rattle.model.specs.Refusals.{Place, nothing, Finding, passes, fails, Outcome, accepted, refused, isAccepted, test, testEach, first, answer, judge}
+use Rattle.model.specs.Refusals.{Place, nothing, Finding, passes, fails, Outcome, accepted, refused, isAccepted, test, testEach, first, answer, outcomeOf}
 
 -- a test that fails does not pass
 pub fails-passes : {A : Type 0} {number : ℕ} {place : Place} → fails number place ≡ passes → A
@@ -63,22 +63,22 @@ pub each-fails : (number : ℕ) (place : ℕ → Place) (n : ℕ) (fault : ℕ �
     testEach number place n fault ≡ fails number (place (suc (lowest n fault)))
 each-fails number place n fault h = rw (lt-ltb _ _ h)
 
--- an accepted call: all its tests pass, and its values are those it was judged with
-pub accepted-passes : {A : Type 0} (ts : List Finding) (v : A) → T (isAccepted (judge ts v)) → first ts ≡ passes
+-- an accepted call: all its tests pass, and its values are those that it was made with
+pub accepted-passes : {A : Type 0} (ts : List Finding) (v : A) → T (isAccepted (outcomeOf ts v)) → first ts ≡ passes
 accepted-passes ts v h = go (first ts) refl h
   where
     go : (t : Finding) → first ts ≡ t → T (isAccepted (answer t v)) → first ts ≡ passes
     go passes e h = e
     go (fails number place) e h = absurd h
 
-pub judge-passes : {A : Type 0} (ts : List Finding) (v : A) → first ts ≡ passes → judge ts v ≡ accepted v
-judge-passes ts v e = ap (λ t. answer t v) e
+pub outcome-passes : {A : Type 0} (ts : List Finding) (v : A) → first ts ≡ passes → outcomeOf ts v ≡ accepted v
+outcome-passes ts v e = ap (λ t. answer t v) e
 
-pub judge-fails : {A : Type 0} (ts : List Finding) (v : A) {number : ℕ} {place : Place} → first ts ≡ fails number place → judge ts v ≡ refused number place
-judge-fails ts v e = ap (λ t. answer t v) e
+pub outcome-fails : {A : Type 0} (ts : List Finding) (v : A) {number : ℕ} {place : Place} → first ts ≡ fails number place → outcomeOf ts v ≡ refused number place
+outcome-fails ts v e = ap (λ t. answer t v) e
 
--- the values of an accepted call are those that it was judged with
-pub accepted-values : {A : Type 0} (ts : List Finding) (v w : A) → judge ts v ≡ accepted w → v ≡ w
+-- the values of an accepted call are those that it was made with
+pub accepted-values : {A : Type 0} (ts : List Finding) (v w : A) → outcomeOf ts v ≡ accepted w → v ≡ w
 accepted-values ts v w e = go (first ts) e
   where
     go : (t : Finding) → answer t v ≡ accepted w → v ≡ w

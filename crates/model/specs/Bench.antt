@@ -52,8 +52,8 @@ refusal (accepted v) = []
 refusal (refused number place) = number ∷ []
 
 -- a brook of one segment: its answer
-unfoldable pub judged : (dt Q : ℕ) → List ℕ
-judged dt Q = refusal (loadAnswer (brook dt Q 1 0) 1 (zeros 1))
+unfoldable pub brookRefusal : (dt Q : ℕ) → List ℕ
+brookRefusal dt Q = refusal (loadAnswer (brook dt Q 1 0) 1 (zeros 1))
 
 -- T4 and T5: three segments with qin 0 and qout 4,545, dx 1,000, below a flow of 1,000
 unfoldable pub slope : Course
@@ -84,10 +84,10 @@ bench =
     record { number = 4; given = (1000 - discharge slope 1) ∷ []; printed = 46 ∷ [] } ∷
     record { number = 5; given = (1000 - discharge slope 2) ∷ []; printed = 91 ∷ [] } ∷
     -- "e is one whole, accepted"; "refused 12"; "refused 11"; "refused 11"
-    record { number = 6; given = eOf (courseOf (brook 2 1000 1 0)) 0 ∷ judged 2 1000; printed = S ∷ [] } ∷
-    record { number = 7; given = judged 3 1000; printed = 12 ∷ [] } ∷
-    record { number = 8; given = judged 2 1001; printed = 11 ∷ [] } ∷
-    record { number = 9; given = judged 3 1001; printed = 11 ∷ [] } ∷
+    record { number = 6; given = eOf (courseOf (brook 2 1000 1 0)) 0 ∷ brookRefusal 2 1000; printed = S ∷ [] } ∷
+    record { number = 7; given = brookRefusal 3 1000; printed = 12 ∷ [] } ∷
+    record { number = 8; given = brookRefusal 2 1001; printed = 11 ∷ [] } ∷
+    record { number = 9; given = brookRefusal 3 1001; printed = 11 ∷ [] } ∷
     -- "after one step C is 1,035 and 207"; "there p of segment 1 is 178,956,971"
     record { number = 10; given = stepState 2 brook2 started2 (noWork 2) 3000 1 .channel; printed = 1035 ∷ 207 ∷ [] } ∷
     record { number = 11; given = getD (stepWorking 2 brook2 started2 (noWork 2) 3000 1 .p) 0 0 ∷ []; printed = 178956971 ∷ [] } ∷

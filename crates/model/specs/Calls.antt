@@ -9,7 +9,7 @@ use Rattle.model.specs.HalfStep.{Segment}
 use Rattle.model.specs.Equations.{Figures}
 use Rattle.model.specs.Sweep.{downward, stepped}
 use Rattle.model.specs.State.{Columns, columnLists, segmentAt, segmentsOf, State, stateLists, figuresAt, figuresOf, writeFigures}
-use Rattle.model.specs.Refusals.{segment, Outcome, accepted, refused, Finding, test, testEach, judge}
+use Rattle.model.specs.Refusals.{segment, Outcome, accepted, refused, Finding, test, testEach, outcomeOf}
 use Rattle.model.specs.Load.{sumFault}
 
 -- 13. "A lent list is shorter than the river .., or the river has no segment or over 1,024"
@@ -56,7 +56,7 @@ startTests n columns state u =
 
 -- the answer
 unfoldable pub startAnswer : (n : ℕ) → Columns → State → (u : ℕ) → Outcome River
-startAnswer n columns state u = judge (startTests n columns state u) (record { upstream = u; steps = 0 })
+startAnswer n columns state u = outcomeOf (startTests n columns state u) (record { upstream = u; steps = 0 })
 
 -- "C, Z and W to the start figure"
 abbrev pub startFigures : Segment → Figures
@@ -90,7 +90,7 @@ stepTests n columns state working u′ M =
 -- "After a step the state's U is that step's U'."
 unfoldable pub stepAnswer : (n : ℕ) → Columns → State → Working → (u′ M : ℕ) → Outcome River
 stepAnswer n columns state working u′ M =
-    judge (stepTests n columns state working u′ M) (record { upstream = u′; steps = suc (state .steps) })
+    outcomeOf (stepTests n columns state working u′ M) (record { upstream = u′; steps = suc (state .steps) })
 
 -- what a step with this answer leaves
 abbrev pub stateAfterStep : Outcome River → (n : ℕ) → Columns → State → State
@@ -137,4 +137,4 @@ reported columns state i =
 
 -- the answer; nothing is written
 unfoldable pub reportAnswer : (n : ℕ) → Columns → State → (number : ℕ) → Outcome Reported
-reportAnswer n columns state number = judge (reportTests n columns state number) (reported columns state (number - 1))
+reportAnswer n columns state number = outcomeOf (reportTests n columns state number) (reported columns state (number - 1))

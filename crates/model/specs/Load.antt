@@ -14,7 +14,7 @@ use Rattle.model.specs.Flow.{Course, courseOf, flow, discharge}
 use Rattle.model.specs.HalfStep.{Numbers, ad, adBelow, numbers}
 use Rattle.model.specs.Equations.{sumT, sumV}
 use Rattle.model.specs.State.{Columns, columnLists, loadedSegments, writeSegments}
-use Rattle.model.specs.Refusals.{nothing, reach, segment, row, Outcome, accepted, refused, Finding, passes, fails, test, testEach, judge}
+use Rattle.model.specs.Refusals.{nothing, reach, segment, row, Outcome, accepted, refused, Finding, passes, fails, test, testEach, outcomeOf}
 
 -- 1. "Fewer than four bytes, or another mark."
 unfoldable pub unmarked : List ℕ → Bool
@@ -112,7 +112,7 @@ loaded sheet = record {
 
 -- the answer
 unfoldable pub loadAnswer : List ℕ → (records : ℕ) → Columns → Outcome Loaded
-loadAnswer sheet records columns = judge (loadTests sheet records columns) (loaded sheet)
+loadAnswer sheet records columns = outcomeOf (loadTests sheet records columns) (loaded sheet)
 
 -- the fourteen lists afterwards: an accepted loading writes their first entries, a refusal nothing
 abbrev pub columnsAfter : Outcome Loaded → List ℕ → Columns → Columns

@@ -47,5 +47,5 @@ answer passes v = accepted v
 answer (fails number place) v = refused number place
 
 -- the outcome of a call with these tests, which has these values where all of them pass
-abbrev pub judge : {A : Type 0} → List Finding → A → Outcome A
-judge tests v = answer (first tests) v
+abbrev pub outcomeOf : {A : Type 0} → List Finding → A → Outcome A
+outcomeOf tests v = answer (first tests) v

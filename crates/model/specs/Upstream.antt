@@ -6,7 +6,7 @@ use Prim.Native.Nat.{ℕ}
 use lib.Dec.{eqb, leb}
 use lib.ListN.{length}
 use Rattle.model.specs.Ranges.{rowSection, outside}
-use Rattle.model.specs.Refusals.{row, Outcome, Finding, test, testEach, judge}
+use Rattle.model.specs.Refusals.{row, Outcome, Finding, test, testEach, outcomeOf}
 use Rattle.model.specs.Load.{rowFault}
 
 -- "U at step j is that of the last row starting at or before j": `found` is that of the rows passed so far
@@ -28,4 +28,4 @@ upstreamTests M starts concentrations =
 
 -- the answer; nothing is written
 unfoldable pub upstreamAnswer : (M j : ℕ) → (starts concentrations : List ℕ) → Outcome ℕ
-upstreamAnswer M j starts concentrations = judge (upstreamTests M starts concentrations) (upstreamAt j starts concentrations)
+upstreamAnswer M j starts concentrations = outcomeOf (upstreamTests M starts concentrations) (upstreamAt j starts concentrations)

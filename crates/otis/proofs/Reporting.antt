@@ -11,10 +11,10 @@ use Rattle.model.specs.Calls.{heldFault, reportTests, reported, reportAnswer}
 use Rattle.otis.specs.declared.Figures.{Figures}
 use Rattle.otis.specs.declared.Report.the-variants.{Reported}
 use Rattle.otis.specs.Says.{reportSays}
-use Rattle.judge.specs.Tests.{stateTests}
+use Rattle.calltests.specs.Tests.{stateTests}
 use Rattle.model.proofs.Ranges.{inside}
-use Rattle.judge.proofs.RiverLaws.{columns-long, figures-long}
-use Rattle.judge.proofs.StateTests.{sound}
+use Rattle.calltests.proofs.RiverLaws.{columns-long, figures-long}
+use Rattle.calltests.proofs.StateTests.{sound}
 
 or-none : (fault : Bool) → (fault || false) ≡ fault
 or-none true = refl

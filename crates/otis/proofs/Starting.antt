@@ -15,7 +15,7 @@ use Rattle.otis.specs.declared.Start.the-variants.{Started, Refused}
 use Rattle.terms.specs.Lent.{LongFigures}
 use Rattle.otis.specs.Outcomes.{StartOutcome}
 use Rattle.model.proofs.Refusals.{all-pass, test-clear}
-use Rattle.judge.proofs.RiverLaws.{columns-long, figures-long}
+use Rattle.calltests.proofs.RiverLaws.{columns-long, figures-long}
 
 module _ (n : ℕ) (x : Columns) (before : State) (u : ℕ) where
   -- the lists that it reads and writes have n entries

@@ -1,3 +1,4 @@
+ghost use Rattle.terms.specs.Lent.{entry, exit};
 // The figures of the segments in their lists.
 ghost use mathlib.Core.Path.{_≡_};
 ghost use Prim.Native.Nat.{_*_, _<_, _≤_};
@@ -8,7 +9,7 @@ use crate::Figures;
 // The first n entries of `from` over those of `to`.
 pub fn copy(n: usize, from: &[u32], to: &mut [u32])
     requires { ⌜ (n ≤ length (now from)) × (n ≤ length (now to)) ⌝ }
-    ensures { λ r. ⌜ now (to .exit) ≡ over (tab 0 n (λ i. getD (now (from .entry)) i 0)) (now (to .entry)) ⌝ }
+    ensures { λ r. ⌜ exit to ≡ over (tab 0 n (λ i. getD (entry from) i 0)) (entry to) ⌝ }
 {
     let mut i: usize = 0;
     while i < n {
@@ -27,10 +28,9 @@ fn product(a: u32, b: u32) -> u64
 pub fn at(i: usize, kd: &[u32], channel: &[u32], storage: &[u32], sediment: &[u32]) -> Figures
     requires { ⌜ (i < length (now kd)) × (i < length (now channel)) × (i < length (now storage)) × (i < length (now sediment)) ⌝ }
     ensures { λ r. ⌜ r ≡ record {
-      channel = getD (now (channel .entry)) i 0;
-      storage = getD (now (storage .entry)) i 0;
-      sediment = getD
-          (now (kd .entry)) i 0 * getD (now (sediment .entry)) i 0;
+      channel = getD (entry channel) i 0;
+      storage = getD (entry storage) i 0;
+      sediment = getD (entry kd) i 0 * getD (entry sediment) i 0;
     } ⌝ }
 {
     Figures {

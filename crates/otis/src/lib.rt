@@ -6,15 +6,15 @@ ghost use lib.Dec.{leb};
 ghost use Rattle.model.specs.Refusals.{test, first};
 ghost use Rattle.model.specs.Calls.{reportAnswer};
 ghost use Rattle.terms.specs.Says.{findingSays};
-ghost use Rattle.terms.specs.Lent.{columns, state};
+ghost use Rattle.terms.specs.Lent.{entry, exit, columns, state, working};
 ghost use Rattle.otis.specs.Says.{reportSays};
 ghost use Rattle.otis.specs.Outcomes.{StartOutcome, StepOutcome};
-use judge::judge_start;
-use judge::judge_state;
-use judge::limits::HIGHEST;
-use judge::limits::outside;
-use judge::segments::SEGMENTS;
-use judge::segments::or_short;
+use calltests::limits::HIGHEST;
+use calltests::limits::outside;
+use calltests::segments::SEGMENTS;
+use calltests::segments::or_short;
+use calltests::start_test;
+use calltests::state_test;
 use terms::Finding;
 use terms::Place;
 
@@ -81,13 +81,10 @@ impl River {
         sediment: &mut [u32],
         u: u32,
     ) -> Start
-        ensures { λ r. ⌜ ((upstream steps : ℕ) → StartOutcome n
-            (columns (now (e .entry)) (now (g .entry)) (now (l .entry)) (now (a .entry)) (now (b .entry)) (now (k .entry)) (now (ks .entry))
-            (now (h .entry)) (now (m .entry)) (now (s .entry)) (now (cl .entry)) (now (cb .entry)) (now (kd .entry)) (now (start .entry)))
-            (state (now (channel .entry)) (now (storage .entry)) (now (sediment .entry)) upstream steps) u r
-            (now (channel .exit)) (now (storage .exit)) (now (sediment .exit))) ⌝ }
+        ensures { λ r. ⌜ ((upstream steps : ℕ) → StartOutcome n (columns entry e g l a b k ks h m s cl cb kd start)
+            (state entry channel storage sediment upstream steps) u r (exit channel) (exit storage) (exit sediment)) ⌝ }
     {
-        let found = judge_start(
+        let found = start_test(
             n,
             e,
             g,
@@ -149,16 +146,13 @@ impl River {
         u: u32,
         steps: u32,
     ) -> Step
-        ensures { λ r. ⌜ StepOutcome n
-            (columns (now (e .entry)) (now (g .entry)) (now (l .entry)) (now (a .entry)) (now (b .entry)) (now (k .entry)) (now (ks .entry))
-            (now (h .entry)) (now (m .entry)) (now (s .entry)) (now (cl .entry)) (now (cb .entry)) (now (kd .entry)) (now (start .entry)))
-            (state (now (channel .entry)) (now (storage .entry)) (now (sediment .entry)) (self .upstream) (self .steps))
-            (record { p = now (p .entry); y = now (y .entry) }) u steps r
-            (now (channel .exit)) (now (storage .exit)) (now (sediment .exit)) (now (p .exit)) (now (y .exit)) ⌝ }
+        ensures { λ r. ⌜ StepOutcome n (columns entry e g l a b k ks h m s cl cb kd start)
+            (state entry channel storage sediment (self .upstream) (self .steps)) (working entry p y) u steps r (exit channel)
+            (exit storage) (exit sediment) (exit p) (exit y) ⌝ }
     {
         let count = n as usize;
         let unfit = or_short(count, p.len(), or_short(count, y.len(), false));
-        let state = judge_state(
+        let state = state_test(
             n,
             e,
             g,
@@ -241,13 +235,11 @@ impl River {
         sediment: &[u32],
         segment: u32,
     ) -> Report
-        ensures { λ r. ⌜ reportSays r ≡ reportAnswer n
-            (columns (now (e .entry)) (now (g .entry)) (now (l .entry)) (now (a .entry)) (now (b .entry)) (now (k .entry)) (now (ks .entry))
-            (now (h .entry)) (now (m .entry)) (now (s .entry)) (now (cl .entry)) (now (cb .entry)) (now (kd .entry)) (now (start .entry)))
-            (state (now (channel .entry)) (now (storage .entry)) (now (sediment .entry)) (self .upstream) (self .steps)) segment ⌝ }
+        ensures { λ r. ⌜ reportSays r ≡ reportAnswer n (columns entry e g l a b k ks h m s cl cb kd start)
+            (state entry channel storage sediment (self .upstream) (self .steps)) segment ⌝ }
     {
         let unfit = outside(1, n as u64, segment as u64);
-        let found = judge_state(
+        let found = state_test(
             n,
             e,
             g,

@@ -1,10 +1,10 @@
 // Program river: reads a river sheet on standard input and prints its listing, or `refused` and the number of the refusal.
+use assembly::Load;
+use assembly::Loaded;
 use boundary::Upstream;
 use boundary::rows::upstream;
 use libc::STDIN_FILENO;
 use libc::STDOUT_FILENO;
-use loader::Load;
-use loader::Loaded;
 use loading::load_lists;
 use otis::Figures;
 use otis::Report;

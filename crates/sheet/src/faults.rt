@@ -9,6 +9,7 @@ ghost use Rattle.model.specs.Refusals as Document;
 ghost use Rattle.model.specs.Refusals.{testEach};
 ghost use Rattle.model.specs.Load.{startsLate, rowFault, gaugeFault};
 ghost use Rattle.terms.specs.Says.{findingSays};
+ghost use Rattle.terms.specs.Lent.{entry};
 ghost use Rattle.sheet.specs.Tables.{rangeSays};
 ghost use Rattle.sheet.specs.Entries.{IsRow, IsGauge};
 use crate::fields::dt;
@@ -42,7 +43,7 @@ use terms::Place;
 
 // 5. "A header field is outside its range."
 pub fn header_fault(sheet: &[u8]) -> bool
-    ensures { λ r. let s = now (sheet .entry) in ⌜ r ≡ anyOutside (headerRanges (stepsM s)) (header s) ⌝ }
+    ensures { λ r. let s = entry sheet in ⌜ r ≡ anyOutside (headerRanges (stepsM s)) (header s) ⌝ }
 {
     let most = steps(sheet);
     outside(DT, dt(sheet))
@@ -81,7 +82,7 @@ fn reach_range(k: usize) -> Range
 
 // A field of reach i is outside its range.
 pub fn reach_fault(sheet: &[u8], i: usize) -> bool
-    ensures { λ r. ⌜ r ≡ anyOutside reachRanges (reachFields (now (sheet .entry)) i) ⌝ }
+    ensures { λ r. ⌜ r ≡ anyOutside reachRanges (reachFields (entry sheet) i) ⌝ }
 {
     let mut k: usize = 0;
     while k < REACH_WIDTH {
@@ -95,8 +96,8 @@ pub fn reach_fault(sheet: &[u8], i: usize) -> bool
 
 // 6. "A reach field is outside its range (reach)."
 pub fn reach_test(sheet: &[u8]) -> Finding
-    ensures { λ r. let s = now (sheet .entry) in
-        ⌜ findingSays r ≡ testEach 6 Document.reach (reachCount s) (λ i. anyOutside reachRanges (reachFields s i)) ⌝ }
+    ensures { λ r. let s = entry sheet in ⌜ findingSays r ≡ testEach 6 Document.reach (reachCount s)
+        (λ i. anyOutside reachRanges (reachFields s i)) ⌝ }
 {
     let count = reach_count(sheet);
     let mut i: u32 = 0;
@@ -122,16 +123,16 @@ fn starts_late(j: u32, before: u32, start: u32) -> bool
 
 // Row j breaks its rule on starts, which rise to at most M, or its concentration is outside its range.
 pub fn row_fault(steps: u32, j: u32, before: u32, start: u32, concentration: u32) -> bool
-    ensures { λ r. ⌜ ((starts concentrations : List ℕ) →
-        IsRow starts concentrations j before start concentration → r ≡ rowFault steps starts concentrations j) ⌝ }
+    ensures { λ r. ⌜ ((starts concentrations : List ℕ) → IsRow starts concentrations j before start concentration → r ≡ rowFault steps
+        starts concentrations j) ⌝ }
 {
     starts_late(j, before, start) | (steps < start) | outside(CONCENTRATION, concentration)
 }
 
 // 8. "A boundary row breaks its rule on starts, or its concentration is outside its range (row)."
 pub fn row_test(sheet: &[u8]) -> Finding
-    ensures { λ r. let s = now (sheet .entry) in
-        ⌜ findingSays r ≡ testEach 8 Document.row (rowCount s) (rowFault (stepsM s) (rowStarts s) (rowConcentrations s)) ⌝ }
+    ensures { λ r. let s = entry sheet in ⌜ findingSays r ≡ testEach 8 Document.row (rowCount s)
+        (rowFault (stepsM s) (rowStarts s) (rowConcentrations s)) ⌝ }
 {
     let count = row_count(sheet);
     let most = steps(sheet);
@@ -161,8 +162,7 @@ pub fn gauge_fault(segments: usize, j: u32, before: u32, gauge: u32) -> bool
 
 // 9. "A gauge breaks its rule (row)."
 pub fn gauge_test(sheet: &[u8], segments: usize) -> Finding
-    ensures { λ r. let s = now (sheet .entry) in
-        ⌜ findingSays r ≡ testEach 9 Document.row (gaugeCount s) (gaugeFault segments (gauges s)) ⌝ }
+    ensures { λ r. let s = entry sheet in ⌜ findingSays r ≡ testEach 9 Document.row (gaugeCount s) (gaugeFault segments (gauges s)) ⌝ }
 {
     let count = gauge_count(sheet);
     let mut before: u32 = 0;

@@ -6,6 +6,7 @@ ghost use Rattle.model.specs.Ranges.{reachSection, rowSection, gaugeSection};
 ghost use Rattle.model.specs.Sheet.{field, headerField, dt, dx, stepsM, interval, topFlow, recordField, reachOn, segmentCount};
 ghost use Rattle.model.specs.Sheet.{reachCountAt, rowCountAt, gaugeCountAt, sheetEnd, reachCount, rowCount, gaugeCount, rowsAt, gaugesAt};
 ghost use Rattle.terms.specs.Says.{reachSays};
+ghost use Rattle.terms.specs.Lent.{entry};
 ghost use Rattle.sheet.specs.Tables.{sectionSays};
 use crate::layout::REACH_COUNT_AT;
 use crate::layout::SIZE;
@@ -20,7 +21,7 @@ use terms::Reach;
 
 // One byte, of a place past the end 0.
 fn byte(sheet: &[u8], at: usize) -> u8
-    ensures { λ r. ⌜ r ≡ getD (now (sheet .entry)) at 0 ⌝ }
+    ensures { λ r. ⌜ r ≡ getD (entry sheet) at 0 ⌝ }
 {
     if at < sheet.len() { sheet[at] } else { 0 }
 }
@@ -34,7 +35,7 @@ fn word(a: u8, b: u8, c: u8, d: u8) -> u32
 
 // "All fields are unsigned 32-bit, little-endian": the field whose first byte is byte number `at`.
 pub fn field(sheet: &[u8], at: usize) -> u32
-    ensures { λ r. ⌜ r ≡ field (now (sheet .entry)) at ⌝ }
+    ensures { λ r. ⌜ r ≡ field (entry sheet) at ⌝ }
 {
     if sheet.len() <= at {
         return 0;
@@ -49,7 +50,7 @@ pub fn field(sheet: &[u8], at: usize) -> u32
 
 // Field k of record i of a section whose count stands at count_at.
 pub fn record_field(sheet: &[u8], count_at: usize, section: Section, i: usize, k: usize) -> u32
-    ensures { λ r. ⌜ r ≡ recordField (now (sheet .entry)) «count_at» (sectionSays section) i k ⌝ }
+    ensures { λ r. ⌜ r ≡ recordField (entry sheet) «count_at» (sectionSays section) i k ⌝ }
 {
     let before = sum(product(section.width as usize, i), k);
     field(sheet, sum(sum(count_at, SIZE), product(SIZE, before)))
@@ -57,101 +58,101 @@ pub fn record_field(sheet: &[u8], count_at: usize, section: Section, i: usize, k
 
 // Field k of the header.
 pub fn header_field(sheet: &[u8], k: usize) -> u32
-    ensures { λ r. ⌜ r ≡ headerField (now (sheet .entry)) k ⌝ }
+    ensures { λ r. ⌜ r ≡ headerField (entry sheet) k ⌝ }
 {
     field(sheet, sum(SIZE, product(SIZE, k)))
 }
 
 pub fn dt(sheet: &[u8]) -> u32
-    ensures { λ r. ⌜ r ≡ dt (now (sheet .entry)) ⌝ }
+    ensures { λ r. ⌜ r ≡ dt (entry sheet) ⌝ }
 {
     header_field(sheet, 0)
 }
 
 pub fn dx(sheet: &[u8]) -> u32
-    ensures { λ r. ⌜ r ≡ dx (now (sheet .entry)) ⌝ }
+    ensures { λ r. ⌜ r ≡ dx (entry sheet) ⌝ }
 {
     header_field(sheet, 1)
 }
 
 // M.
 pub fn steps(sheet: &[u8]) -> u32
-    ensures { λ r. ⌜ r ≡ stepsM (now (sheet .entry)) ⌝ }
+    ensures { λ r. ⌜ r ≡ stepsM (entry sheet) ⌝ }
 {
     header_field(sheet, 2)
 }
 
 pub fn interval(sheet: &[u8]) -> u32
-    ensures { λ r. ⌜ r ≡ interval (now (sheet .entry)) ⌝ }
+    ensures { λ r. ⌜ r ≡ interval (entry sheet) ⌝ }
 {
     header_field(sheet, 3)
 }
 
 pub fn top_flow(sheet: &[u8]) -> u32
-    ensures { λ r. ⌜ r ≡ topFlow (now (sheet .entry)) ⌝ }
+    ensures { λ r. ⌜ r ≡ topFlow (entry sheet) ⌝ }
 {
     header_field(sheet, 4)
 }
 
 // Where the counts of rows and gauges stand, and where the sheet ends behind its last gauge: all far below the highest usize.
 pub fn row_count_at(sheet: &[u8]) -> usize
-    ensures { λ r. ⌜ (r ≡ rowCountAt (now (sheet .entry))) × (r < 2 ^ 40) ⌝ }
+    ensures { λ r. ⌜ (r ≡ rowCountAt (entry sheet)) × (r < 2 ^ 40) ⌝ }
 {
     section_end(sheet, REACH_COUNT_AT, REACHES)
 }
 
 pub fn gauge_count_at(sheet: &[u8]) -> usize
-    ensures { λ r. ⌜ (r ≡ gaugeCountAt (now (sheet .entry))) × (r < 2 ^ 41) ⌝ }
+    ensures { λ r. ⌜ (r ≡ gaugeCountAt (entry sheet)) × (r < 2 ^ 41) ⌝ }
 {
     section_end(sheet, row_count_at(sheet), ROWS)
 }
 
 pub fn sheet_end(sheet: &[u8]) -> usize
-    ensures { λ r. ⌜ r ≡ sheetEnd (now (sheet .entry)) ⌝ }
+    ensures { λ r. ⌜ r ≡ sheetEnd (entry sheet) ⌝ }
 {
     section_end(sheet, gauge_count_at(sheet), GAUGES)
 }
 
 pub fn reach_count(sheet: &[u8]) -> u32
-    ensures { λ r. ⌜ r ≡ reachCount (now (sheet .entry)) ⌝ }
+    ensures { λ r. ⌜ r ≡ reachCount (entry sheet) ⌝ }
 {
     field(sheet, REACH_COUNT_AT)
 }
 
 pub fn row_count(sheet: &[u8]) -> u32
-    ensures { λ r. ⌜ r ≡ rowCount (now (sheet .entry)) ⌝ }
+    ensures { λ r. ⌜ r ≡ rowCount (entry sheet) ⌝ }
 {
     field(sheet, row_count_at(sheet))
 }
 
 pub fn gauge_count(sheet: &[u8]) -> u32
-    ensures { λ r. ⌜ r ≡ gaugeCount (now (sheet .entry)) ⌝ }
+    ensures { λ r. ⌜ r ≡ gaugeCount (entry sheet) ⌝ }
 {
     field(sheet, gauge_count_at(sheet))
 }
 
 // Where the rows and the gauges begin: the first byte behind their count.
 pub fn rows_at(sheet: &[u8]) -> usize
-    ensures { λ r. ⌜ r ≡ rowsAt (now (sheet .entry)) ⌝ }
+    ensures { λ r. ⌜ r ≡ rowsAt (entry sheet) ⌝ }
 {
     row_count_at(sheet) + SIZE
 }
 
 pub fn gauges_at(sheet: &[u8]) -> usize
-    ensures { λ r. ⌜ r ≡ gaugesAt (now (sheet .entry)) ⌝ }
+    ensures { λ r. ⌜ r ≡ gaugesAt (entry sheet) ⌝ }
 {
     gauge_count_at(sheet) + SIZE
 }
 
 // Field k of reach i; reaches, rows and gauges count from 0 here.
 pub fn reach_field(sheet: &[u8], i: usize, k: usize) -> u32
-    ensures { λ r. ⌜ r ≡ recordField (now (sheet .entry)) reachCountAt reachSection i k ⌝ }
+    ensures { λ r. ⌜ r ≡ recordField (entry sheet) reachCountAt reachSection i k ⌝ }
 {
     record_field(sheet, REACH_COUNT_AT, REACHES, i, k)
 }
 
 pub fn reach(sheet: &[u8], i: usize) -> Reach
-    ensures { λ r. ⌜ reachSays r ≡ reachOn (now (sheet .entry)) i ⌝ }
+    ensures { λ r. ⌜ reachSays r ≡ reachOn (entry sheet) i ⌝ }
 {
     Reach {
         segments: reach_field(sheet, i, 0),
@@ -174,27 +175,27 @@ pub fn reach(sheet: &[u8], i: usize) -> Reach
 }
 
 pub fn row_start(sheet: &[u8], j: usize) -> u32
-    ensures { λ r. ⌜ r ≡ recordField (now (sheet .entry)) (rowCountAt (now (sheet .entry))) rowSection j 0 ⌝ }
+    ensures { λ r. ⌜ r ≡ recordField (entry sheet) (rowCountAt (entry sheet)) rowSection j 0 ⌝ }
 {
     record_field(sheet, row_count_at(sheet), ROWS, j, 0)
 }
 
 pub fn row_concentration(sheet: &[u8], j: usize) -> u32
-    ensures { λ r. ⌜ r ≡ recordField (now (sheet .entry)) (rowCountAt (now (sheet .entry))) rowSection j 1 ⌝ }
+    ensures { λ r. ⌜ r ≡ recordField (entry sheet) (rowCountAt (entry sheet)) rowSection j 1 ⌝ }
 {
     record_field(sheet, row_count_at(sheet), ROWS, j, 1)
 }
 
 // Gauge j, a segment's number.
 pub fn gauge(sheet: &[u8], j: usize) -> u32
-    ensures { λ r. ⌜ r ≡ recordField (now (sheet .entry)) (gaugeCountAt (now (sheet .entry))) gaugeSection j 0 ⌝ }
+    ensures { λ r. ⌜ r ≡ recordField (entry sheet) (gaugeCountAt (entry sheet)) gaugeSection j 0 ⌝ }
 {
     record_field(sheet, gauge_count_at(sheet), GAUGES, j, 0)
 }
 
 // The segments of all reaches together. A reach past the sheet's end has none, so the loop may stop there.
 pub fn segment_count(sheet: &[u8]) -> usize
-    ensures { λ r. ⌜ r ≡ segmentCount (now (sheet .entry)) ⌝ }
+    ensures { λ r. ⌜ r ≡ segmentCount (entry sheet) ⌝ }
 {
     let count = reach_count(sheet) as usize;
     let mut total: usize = 0;

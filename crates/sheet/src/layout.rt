@@ -2,6 +2,7 @@
 ghost use mathlib.Core.Path.{_≡_};
 ghost use Prim.Native.Nat.{_+_, _*_, _-_, _^_, _<_, _≤_, min};
 ghost use Rattle.model.specs.Sheet.{sectionEnd};
+ghost use Rattle.terms.specs.Lent.{entry};
 ghost use Rattle.sheet.specs.Tables.{sectionSays};
 use crate::fields::field;
 use crate::ranges::Section;
@@ -34,7 +35,7 @@ pub fn product(a: usize, b: usize) -> usize
 // Where a section ends whose count stands at `at`.
 pub fn section_end(sheet: &[u8], at: usize, section: Section) -> usize
     requires { ⌜ (at < 2 ^ 42) × (section .width ≤ 16) ⌝ }
-    ensures { λ r. ⌜ (r ≡ sectionEnd (now (sheet .entry)) at (sectionSays section)) × (r < at + 2 ^ 39) ⌝ }
+    ensures { λ r. ⌜ (r ≡ sectionEnd (entry sheet) at (sectionSays section)) × (r < at + 2 ^ 39) ⌝ }
 {
     at + SIZE + SIZE * ((section.width as usize) * (field(sheet, at) as usize))
 }

@@ -4,6 +4,7 @@ ghost use lib.ListN.{getD};
 ghost use Rattle.model.specs.Refusals.{passes, test, first};
 ghost use Rattle.model.specs.Load.{sheetTests};
 ghost use Rattle.terms.specs.Says.{findingSays};
+ghost use Rattle.terms.specs.Lent.{entry};
 
 pub mod faults;
 pub mod fields;
@@ -36,7 +37,7 @@ fn finding(number: u32, fault: bool) -> Finding
 
 // "Tests run in the order of their numbers", 2 and 3 on one walk: what the k-th of the eight finds, from 0. Behind them nothing is at fault.
 fn kth_test(sheet: &[u8], k: u32) -> Finding
-    ensures { λ r. ⌜ findingSays r ≡ getD (sheetTests (now (sheet .entry))) k passes ⌝ }
+    ensures { λ r. ⌜ findingSays r ≡ getD (sheetTests (entry sheet)) k passes ⌝ }
 {
     match k {
         0 => finding(1, unmarked(sheet)),
@@ -52,8 +53,8 @@ fn kth_test(sheet: &[u8], k: u32) -> Finding
 }
 
 // Tests 1 to 9: the first that fails decides.
-pub fn judge(sheet: &[u8]) -> Finding
-    ensures { λ r. ⌜ findingSays r ≡ first (sheetTests (now (sheet .entry))) ⌝ }
+pub fn sheet_test(sheet: &[u8]) -> Finding
+    ensures { λ r. ⌜ findingSays r ≡ first (sheetTests (entry sheet)) ⌝ }
 {
     let mut k: u32 = 0;
     while k < 8 {

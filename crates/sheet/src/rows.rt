@@ -2,6 +2,7 @@
 ghost use mathlib.Core.Path.{_≡_};
 ghost use Rattle.model.specs.Sheet.{rowStarts, rowConcentrations};
 ghost use Rattle.terms.specs.Says.{findingSays};
+ghost use Rattle.terms.specs.Lent.{entry, exit};
 ghost use Rattle.sheet.specs.Rows.{rowListTest, rowListAfter};
 use crate::fields::row_concentration;
 use crate::fields::row_count;
@@ -11,10 +12,10 @@ use terms::Place;
 
 // Fills the two lists' first entries from the sheet, one for each row.
 pub fn copy_rows(sheet: &[u8], starts: &mut [u32], concentrations: &mut [u32]) -> Finding
-    ensures found { λ r. ⌜ findingSays r ≡ rowListTest (now (sheet .entry)) (now (starts .entry)) (now (concentrations .entry)) ⌝ }
-    ensures starts { λ r. ⌜ now (starts .exit) ≡ rowListAfter (findingSays r) (rowStarts (now (sheet .entry))) (now (starts .entry)) ⌝ }
-    ensures concentrations { λ r. let s = now (sheet .entry) in
-        ⌜ now (concentrations .exit) ≡ rowListAfter (findingSays r) (rowConcentrations s) (now (concentrations .entry)) ⌝ }
+    ensures found { λ r. ⌜ findingSays r ≡ rowListTest (entry sheet) (entry starts) (entry concentrations) ⌝ }
+    ensures starts { λ r. ⌜ exit starts ≡ rowListAfter (findingSays r) (rowStarts (entry sheet)) (entry starts) ⌝ }
+    ensures concentrations { λ r. let s = entry sheet in
+        ⌜ exit concentrations ≡ rowListAfter (findingSays r) (rowConcentrations s) (entry concentrations) ⌝ }
 {
     let count = row_count(sheet) as usize;
     if starts.len() < count {

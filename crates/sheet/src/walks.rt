@@ -6,6 +6,7 @@ ghost use Rattle.model.specs.Ranges.{_to_, sections};
 ghost use Rattle.model.specs.Sheet.{reachCountAt};
 ghost use Rattle.model.specs.Load.{unmarked, walk};
 ghost use Rattle.terms.specs.Says.{findingSays};
+ghost use Rattle.terms.specs.Lent.{entry};
 ghost use Rattle.sheet.specs.Tables.{sectionSays};
 use crate::fields::field;
 use crate::layout::REACH_COUNT_AT;
@@ -21,7 +22,7 @@ use terms::Place;
 
 // 1. "Fewer than four bytes, or another mark."
 pub fn unmarked(sheet: &[u8]) -> bool
-    ensures { λ r. ⌜ r ≡ unmarked (now (sheet .entry)) ⌝ }
+    ensures { λ r. ⌜ r ≡ unmarked (entry sheet) ⌝ }
 {
     let mark = b"OTR1";
     let mut i: usize = 0;
@@ -48,7 +49,7 @@ fn section_of(k: usize) -> Section
 
 // 2 and 3, "the one met first decides".
 pub fn walk(sheet: &[u8]) -> Finding
-    ensures { λ r. ⌜ findingSays r ≡ walk (now (sheet .entry)) reachCountAt sections ⌝ }
+    ensures { λ r. ⌜ findingSays r ≡ walk (entry sheet) reachCountAt sections ⌝ }
 {
     let mut at: usize = REACH_COUNT_AT;
     let mut k: usize = 0;

@@ -11,6 +11,7 @@ use Rattle.model.specs.Equations.{Figures, sumT, sumV}
 use Rattle.model.specs.Sweep.{F, Row, rows, below, clamp, finish}
 use Rattle.model.specs.TwoSets.{Pair, pairChannel, pairStorage, pairSediment, pairP, pairN, pairRow, pairFigures, pairStepped}
 use Rattle.stability.specs.Accepted.{Accepted, AtMost}
+use Rattle.stability.specs.Stable.{Fit}
 
 -- every entry of a list has the property
 pub data All {A : Type 0} (P : A → Type 0) : List A → Type 0 where
@@ -98,13 +99,6 @@ module _ (x : Pair) (f : Figures) (ok : Accepted x) (most : AtMost highest f) wh
   }
 
 -- ---- the row of a segment
-
--- a row on which the sweep stays within one whole
-pub record Fit (r : Row) : Type 0 where
-  pub small : r .g ≤ S
-  pub wide : S + r .e + r .g ≤ r .F
-  pub most : r .F ≤ 2 * S
-  pub room : r .R + S + (r .e + r .g) * S ≤ r .F * S
 
 -- P = num/n and q = a·c/n, both rounded
 quotient-room : (n c a num q P : ℕ) → 0 < n → Rounds (a * c) n q → Rounds num n P → num ≤ c * highest → a ≤ S → a * P ≤ S * q + S

@@ -7,17 +7,10 @@ use native.Mathlib.Omega.{arith}
 use Rattle.rounding.specs.Nearest.{S, nearest}
 use Rattle.rounding.proofs.Laws.{Rounds, rounds, nearest-le}
 use Rattle.model.specs.Sweep.{Row, Passed, Above, top, under, H, yNumerator, pass, down, onTop, up}
-use Rattle.stability.proofs.Accepted.{All, none, cons, Fit}
+use Rattle.stability.specs.Stable.{Fit, pAbove, yAbove, Stable}
+use Rattle.stability.proofs.Accepted.{All, none, cons}
 
 -- ---- the same four lines for every segment: p and y above segment 1 count as 0 and U', C' below the last as 0
-
-abbrev pub pAbove : Above → ℕ
-pAbove (top u′) = 0
-pAbove (under d) = d .p
-
-abbrev pub yAbove : Above → ℕ
-yAbove (top u′) = u′
-yAbove (under d) = d .y
 
 -- the first of the C' below
 abbrev pub first : List ℕ → ℕ
@@ -44,11 +37,6 @@ onTop-same d [] = omega (arith, none-rounded (d .p * 0) (omega arith))
 onTop-same d (x ∷ xs) = refl
 
 -- ---- downward
-
--- what stands above a segment is within one whole
-pub record Stable (above : Above) : Type 0 where
-  pub half : 2 * pAbove above ≤ S
-  pub whole : yAbove above + pAbove above ≤ S
 
 pub top-stable : (u′ : ℕ) → u′ ≤ S → Stable (top u′)
 top-stable u′ h = record { half = omega arith; whole = omega arith }

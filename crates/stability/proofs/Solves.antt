@@ -8,8 +8,9 @@ use native.Mathlib.Omega.{arith}
 use Rattle.rounding.specs.Nearest.{S, nearest}
 use Rattle.rounding.proofs.Laws.{Rounds, rounds, by}
 use Rattle.model.specs.Sweep.{Row, Above, top, under, H, pass, down, up}
-use Rattle.stability.proofs.Accepted.{All, Fit}
-use Rattle.stability.proofs.Passes.{pAbove, yAbove, first, none-rounded, onTop-same, Stable, top-stable, Kept, kept, onTop-most, first-most, down-stable}
+use Rattle.stability.specs.Stable.{Fit, pAbove, yAbove, Stable}
+use Rattle.stability.proofs.Accepted.{All}
+use Rattle.stability.proofs.Passes.{first, none-rounded, onTop-same, top-stable, Kept, kept, onTop-most, first-most, down-stable}
 
 -- x solves its row with the neighbours xa above and xb below, up to the roundings of the sweep
 pub record Solves (r : Row) (xa x xb : ℕ) : Type 0 where

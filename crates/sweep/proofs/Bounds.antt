@@ -10,7 +10,8 @@ use Rattle.model.specs.Sweep.{R, rowOf, newFigures}
 use Rattle.model.specs.TwoSets.{Pair, both}
 use Rattle.model.proofs.TwoSets.{storage-same, row-same, figures-same}
 use Rattle.stability.specs.Accepted.{Sums, Accepted, AtMost}
-use Rattle.stability.proofs.Accepted.{storageQuotient, sedimentQuotient, storage-quotient, sediment-quotient, storage-most, sediment-most, figures-most, Fit, row-fit}
+use Rattle.stability.specs.Stable.{Fit}
+use Rattle.stability.proofs.Accepted.{storageQuotient, sedimentQuotient, storage-quotient, sediment-quotient, storage-most, sediment-most, figures-most, row-fit}
 use Rattle.sweep.specs.Segment.{stores, RowReady, StoresReady}
 
 -- the row of an accepted segment is fit

@@ -17,8 +17,8 @@ use Rattle.model.specs.TwoSets.{both}
 use Rattle.model.specs.State.{Columns, segmentAt, segmentsOf, State, figuresAt, figuresOf}
 use Rattle.model.specs.Calls.{Working}
 use Rattle.stability.specs.Accepted.{Accepted, AtMost}
-use Rattle.stability.proofs.Accepted.{Fit}
-use Rattle.stability.proofs.Passes.{pAbove, yAbove, pass-same, Stable, top-stable, Kept, kept}
+use Rattle.stability.specs.Stable.{Fit, pAbove, yAbove, Stable}
+use Rattle.stability.proofs.Passes.{pass-same, top-stable, Kept, kept}
 use Rattle.sweep.specs.Segment.{segment, figures, passed, RowReady, SegmentReady}
 use Rattle.sweep.specs.Step.{Ready, PassedOver}
 use Rattle.sweep.proofs.Bounds.{ready-fit}

@@ -8,9 +8,11 @@ use Rattle.lists.specs.Lists.{tab}
 use Rattle.model.specs.Sweep.{R, rowOf, Passed, under, downward, up, finish, newFigures, stepped}
 use Rattle.model.specs.State.{Columns, segmentAt, segmentsOf, State, figuresAt, figuresOf}
 use Rattle.model.specs.Calls.{Working}
-use Rattle.stability.proofs.Passes.{Stable, top-stable, kept}
+use Rattle.stability.specs.Stable.{Stable}
+use Rattle.stability.proofs.Passes.{top-stable, kept}
 use Rattle.sweep.specs.Segment.{stores, passed}
-use Rattle.sweep.specs.Step.{columnsOf, stateOf, workingOf, passedOf, Ready, UpReady, FiguresOver, PassedOver, Stepped}
+use Rattle.terms.specs.Lent.{plain, state as stateOf, working as workingOf}
+use Rattle.sweep.specs.Step.{columnsOf, passedOf, Ready, UpReady, FiguresOver, PassedOver, Stepped}
 use Rattle.sweep.proofs.Bounds.{ready-fit, stores-accepted}
 use Rattle.sweep.proofs.Tables.{length-tab, tab-same, over-tab, getD-table}
 use Rattle.sweep.proofs.River.{standing, passedAt, rowAt, downward-tab}
@@ -33,10 +35,10 @@ module _ {n : ℕ} {columns : Columns} {state : State} {working : Working} {u′
     passed-at : (i : ℕ) → i < n → passed (getD p i 0) (getD y i 0) ≡ passedAt (rowAt n columns state) u′ i
     passed-at i h = rw (p-is, y-is, getD-table (λ j. passedAt (rowAt n columns state) u′ j .p) n (drop n (working .p)) i h, getD-table (λ j. passedAt (rowAt n columns state) u′ j .y) n (drop n (working .y)) i h)
 
-    passed-all : passedOf n (workingOf p y) ≡ downward (state .upstream) u′ (segmentsOf n columns) (figuresOf n state)
+    passed-all : passedOf n (workingOf plain p y) ≡ downward (state .upstream) u′ (segmentsOf n columns) (figuresOf n state)
     passed-all = tab-same 0 n _ (passedAt (rowAt n columns state) u′) (λ i h. passed-at i (omega arith)) ∙ sym (downward-tab n columns state u′)
 
-    pub up-ready : UpReady n (columns .b) (columns .ks) (columns .h) (columns .m) (columns .cb) (stateOf (state .channel) (state .storage) (state .sediment) 0 0) (workingOf p y)
+    pub up-ready : UpReady n (columns .b) (columns .ks) (columns .h) (columns .m) (columns .cb) (stateOf plain (state .channel) (state .storage) (state .sediment) 0 0) (workingOf plain p y)
     unfolding segmentAt figuresAt
     up-ready = record {
       few = ready .few;
@@ -59,19 +61,19 @@ module _ {n : ℕ} {columns : Columns} {state : State} {working : Working} {u′
 
 -- Kd, the start figures and the count of steps take no part
 downward-any : (n : ℕ) (e g l a b k ks h m s cl cb kd start C Z W : List ℕ) (u steps u′ : ℕ) →
-    downward u u′ (segmentsOf n (columnsOf e g l a b k ks h m s cl cb kd start)) (figuresOf n (stateOf C Z W u steps)) ≡ downward u u′ (segmentsOf n (columnsOf e g l a b k ks h m s cl cb [] [])) (figuresOf n (stateOf C Z W u 0))
+    downward u u′ (segmentsOf n (columnsOf plain e g l a b k ks h m s cl cb kd start)) (figuresOf n (stateOf plain C Z W u steps)) ≡ downward u u′ (segmentsOf n (columnsOf plain e g l a b k ks h m s cl cb [] [])) (figuresOf n (stateOf plain C Z W u 0))
 unfolding segmentAt figuresAt rowOf R
 downward-any n e g l a b k ks h m s cl cb kd start C Z W u steps u′ =
-    downward-tab n (columnsOf e g l a b k ks h m s cl cb kd start) (stateOf C Z W u steps) u′ ∙ sym (downward-tab n (columnsOf e g l a b k ks h m s cl cb [] []) (stateOf C Z W u 0) u′)
+    downward-tab n (columnsOf plain e g l a b k ks h m s cl cb kd start) (stateOf plain C Z W u steps) u′ ∙ sym (downward-tab n (columnsOf plain e g l a b k ks h m s cl cb [] []) (stateOf plain C Z W u 0) u′)
 
 pub step-end : {n : ℕ} {e g l a b k ks h m s cl cb C Z W P Y : List ℕ} {u u′ : ℕ} {channel storage sediment p y : List ℕ} →
-    Ready n (columnsOf e g l a b k ks h m s cl cb [] []) (stateOf C Z W u 0) (workingOf P Y) u′ →
-    PassedOver (downward u u′ (segmentsOf n (columnsOf e g l a b k ks h m s cl cb [] [])) (figuresOf n (stateOf C Z W u 0))) (workingOf P Y) p y →
+    Ready n (columnsOf plain e g l a b k ks h m s cl cb [] []) (stateOf plain C Z W u 0) (workingOf plain P Y) u′ →
+    PassedOver (downward u u′ (segmentsOf n (columnsOf plain e g l a b k ks h m s cl cb [] [])) (figuresOf n (stateOf plain C Z W u 0))) (workingOf plain P Y) p y →
     ((e g l a k s cl kd start : List ℕ) (u steps : ℕ) →
-    FiguresOver (finish newFigures (segmentsOf n (columnsOf e g l a b k ks h m s cl cb kd start)) (figuresOf n (stateOf C Z W u steps)) (up (passedOf n (workingOf p y))))
-    (stateOf C Z W u steps) channel storage sediment) →
+    FiguresOver (finish newFigures (segmentsOf n (columnsOf plain e g l a b k ks h m s cl cb kd start)) (figuresOf n (stateOf plain C Z W u steps)) (up (passedOf n (workingOf plain p y))))
+    (stateOf plain C Z W u steps) channel storage sediment) →
     (kd start : List ℕ) (steps : ℕ) →
-    Stepped n (columnsOf e g l a b k ks h m s cl cb kd start) (stateOf C Z W u steps) (workingOf P Y) u′ channel storage sediment p y
+    Stepped n (columnsOf plain e g l a b k ks h m s cl cb kd start) (stateOf plain C Z W u steps) (workingOf plain P Y) u′ channel storage sediment p y
 unfolding stepped
 step-end {n} {e} {g} {l} {a} {b} {k} {ks} {h} {m} {s} {cl} {cb} {C} {Z} {W} {P} {Y} {u} {u′} ready passes raised kd start steps =
     let any = downward-any n e g l a b k ks h m s cl cb kd start C Z W u steps u′ in

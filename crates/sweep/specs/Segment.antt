@@ -7,8 +7,7 @@ use Rattle.model.specs.Equations.{Figures}
 use Rattle.model.specs.Sweep.{Row, Passed, under}
 use Rattle.model.specs.TwoSets.{both}
 use Rattle.stability.specs.Accepted.{Accepted, AtMost}
-use Rattle.stability.proofs.Accepted.{Fit}
-use Rattle.stability.proofs.Passes.{Stable}
+use Rattle.stability.specs.Stable.{Fit, Stable}
 
 abbrev pub numbers : (e g l a b k ks h m s : ℕ) → Numbers
 numbers e g l a b k ks h m s = record { e = e; g = g; l = l; a = a; b = b; k = k; ks = ks; h = h; m = m; s = s }

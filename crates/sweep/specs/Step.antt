@@ -10,21 +10,15 @@ use Rattle.model.specs.Sweep.{Passed, under, downward, stepped}
 use Rattle.model.specs.TwoSets.{both}
 use Rattle.model.specs.State.{Columns, segmentAt, segmentsOf, State, figuresAt, figuresOf}
 use Rattle.model.specs.Calls.{Working}
+use Rattle.terms.specs.Lent.{plain, columns}
 use Rattle.stability.specs.Accepted.{Accepted, AtMost}
-use Rattle.stability.proofs.Passes.{Stable}
+use Rattle.stability.specs.Stable.{Stable}
 use Rattle.sweep.specs.Segment.{stores, passed, StoresReady}
 
--- the lists lent
-abbrev pub columnsOf : (e g l a b k ks h m s cl cb kd start : List ℕ) → Columns
-columnsOf e g l a b k ks h m s cl cb kd start =
-    record { e = e; g = g; l = l; a = a; b = b; k = k; ks = ks; h = h; m = m; s = s; cl = cl; cb = cb; kd = kd; start = start }
-
-abbrev pub stateOf : (channel storage sediment : List ℕ) (upstream steps : ℕ) → State
-stateOf channel storage sediment upstream steps =
-    record { channel = channel; storage = storage; sediment = sediment; upstream = upstream; steps = steps }
-
-abbrev pub workingOf : (p y : List ℕ) → Working
-workingOf p y = record { p = p; y = y }
+-- the twelve lists that a step reads, with those of Kd and the start figures, which take no part in it
+abbrev pub columnsOf : {A : Type 0} → (A → List ℕ) → (e g l a b k ks h m s cl cb : A) → (kd start : List ℕ) → Columns
+columnsOf at e g l a b k ks h m s cl cb kd start =
+    columns plain (at e) (at g) (at l) (at a) (at b) (at k) (at ks) (at h) (at m) (at s) (at cl) (at cb) kd start
 
 -- the first n entries of the working lists
 abbrev pub passedOf : ℕ → Working → List Passed

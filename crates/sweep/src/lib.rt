@@ -7,14 +7,15 @@ ghost use lib.Dec.{ltb};
 ghost use lib.ListN.{length, getD};
 ghost use Rattle.model.specs.Sweep.{downward, finish, up, newFigures};
 ghost use Rattle.model.specs.State.{segmentsOf, figuresOf};
-ghost use Rattle.sweep.specs.Step.{columnsOf, stateOf, workingOf, passedOf, Ready, UpReady, FiguresOver, PassedOver, Stepped};
+ghost use Rattle.terms.specs.Lent.{entry, exit, plain, state, working};
+ghost use Rattle.sweep.specs.Step.{columnsOf, passedOf, Ready, UpReady, FiguresOver, PassedOver, Stepped};
 
 pub mod segment;
 
 // The channel figure at i, 0 below the last segment.
 fn channel_or_0(channel: &[u32], i: usize, n: usize) -> u32
     requires { ⌜ n ≤ length (now channel) ⌝ }
-    ensures { λ v. ⌜ v ≡ cond (ltb i n) (getD (now (channel .entry)) i 0) 0 ⌝ }
+    ensures { λ v. ⌜ v ≡ cond (ltb i n) (getD (entry channel) i 0) 0 ⌝ }
 {
     if i < n { channel[i] } else { 0 }
 }
@@ -42,12 +43,9 @@ fn downward(
     p: &mut [u64],
     y: &mut [u64],
 )
-    requires { ⌜ Ready n (columnsOf (now e) (now g) (now l) (now a) (now b) (now k) (now ks) (now h) (now m) (now s) (now cl) (now cb) [] []) (stateOf
-        (now channel) (now storage) (now sediment) u 0) (workingOf (now p) (now y)) next ⌝ }
-    ensures { λ _. ⌜ PassedOver (downward u next (segmentsOf n (columnsOf (now (e .entry)) (now (g .entry)) (now (l .entry)) (now (a .entry))
-        (now (b .entry)) (now (k .entry)) (now (ks .entry)) (now (h .entry)) (now (m .entry)) (now (s .entry)) (now (cl .entry))
-        (now (cb .entry)) [] [])) (figuresOf n (stateOf (now (channel .entry)) (now (storage .entry)) (now (sediment .entry)) u 0))) (workingOf
-        (now (p .entry)) (now (y .entry))) (now (p .exit)) (now (y .exit)) ⌝ }
+    requires { ⌜ Ready n (columnsOf now e g l a b k ks h m s cl cb [] []) (state now channel storage sediment u 0) (working now p y) next ⌝ }
+    ensures { λ _. ⌜ PassedOver (downward u next (segmentsOf n (columnsOf entry e g l a b k ks h m s cl cb [] []))
+        (figuresOf n (state entry channel storage sediment u 0))) (working entry p y) (exit p) (exit y) ⌝ }
 {
     let mut above = u;
     let mut p_above: u64 = 0;
@@ -101,12 +99,11 @@ fn upward(
     storage: &mut [u32],
     sediment: &mut [u32],
 )
-    requires { ⌜ UpReady n (now b) (now ks) (now h) (now m) (now cb) (stateOf (now channel) (now storage) (now sediment) 0 0) (workingOf (now p) (now y)) ⌝ }
-    ensures { λ _. ⌜ ((e g l a k s cl kd start : List ℕ) (u steps : ℕ) → FiguresOver (finish newFigures (segmentsOf n (columnsOf e g l a
-        (now (b .entry)) k (now (ks .entry)) (now (h .entry)) (now (m .entry)) s cl (now (cb .entry)) kd start)) (figuresOf n (stateOf
-        (now (channel .entry)) (now (storage .entry)) (now (sediment .entry)) u steps)) (up (passedOf n (workingOf (now (p .entry))
-        (now (y .entry)))))) (stateOf (now (channel .entry)) (now (storage .entry)) (now (sediment .entry)) u steps) (now (channel .exit))
-        (now (storage .exit)) (now (sediment .exit))) ⌝ }
+    requires { ⌜ UpReady n (now b) (now ks) (now h) (now m) (now cb) (state now channel storage sediment 0 0) (working now p y) ⌝ }
+    ensures { λ _. ⌜ ((e g l a k s cl kd start : List ℕ) (u steps : ℕ) → FiguresOver (finish newFigures
+        (segmentsOf n (columnsOf plain e g l a (entry b) k (entry ks) (entry h) (entry m) s cl (entry cb) kd start))
+        (figuresOf n (state entry channel storage sediment u steps)) (up (passedOf n (working entry p y))))
+        (state entry channel storage sediment u steps) (exit channel) (exit storage) (exit sediment)) ⌝ }
 {
     let mut below: u64 = 0;
     let mut i = n;
@@ -153,13 +150,10 @@ pub fn step(
     p: &mut [u64],
     y: &mut [u64],
 )
-    requires { ⌜ Ready n (columnsOf (now e) (now g) (now l) (now a) (now b) (now k) (now ks) (now h) (now m) (now s) (now cl) (now cb) [] []) (stateOf
-        (now channel) (now storage) (now sediment) u 0) (workingOf (now p) (now y)) next ⌝ }
-    ensures { λ _. ⌜ ((kd start : List ℕ) (steps : ℕ) → Stepped n (columnsOf (now (e .entry)) (now (g .entry)) (now (l .entry)) (now (a .entry))
-        (now (b .entry)) (now (k .entry)) (now (ks .entry)) (now (h .entry)) (now (m .entry)) (now (s .entry)) (now (cl .entry))
-        (now (cb .entry)) kd start) (stateOf (now (channel .entry)) (now (storage .entry)) (now (sediment .entry)) u steps) (workingOf
-        (now (p .entry)) (now (y .entry))) next (now (channel .exit)) (now (storage .exit)) (now (sediment .exit)) (now (p .exit))
-        (now (y .exit))) ⌝ }
+    requires { ⌜ Ready n (columnsOf now e g l a b k ks h m s cl cb [] []) (state now channel storage sediment u 0) (working now p y) next ⌝ }
+    ensures { λ _. ⌜ ((kd start : List ℕ) (steps : ℕ) → Stepped n (columnsOf entry e g l a b k ks h m s cl cb kd start)
+        (state entry channel storage sediment u steps) (working entry p y) next
+        (exit channel) (exit storage) (exit sediment) (exit p) (exit y)) ⌝ }
 {
     downward(
         n,

@@ -2,8 +2,31 @@
 use mathlib.Core.List.{List}
 use Prim.Native.Nat.{ℕ, _≤_}
 use lib.ListN.{length}
+use denote.Ref.{RefT, now}
+use denote.Triple.Both.{Both}
 use Rattle.model.specs.HalfStep.{Numbers, Segment}
 use Rattle.model.specs.State.{Columns, State}
+use Rattle.model.specs.Calls.{Working}
+
+-- ---- Readers: how a contract reads a list or a number that was lent. The records below take one, and then what was lent.
+
+-- something lent, as an `ensures` has it: when the call begins and when it is over
+abbrev pub Lent : Type 0 → Type 0
+Lent A = Both (RefT A) (RefT A)
+
+-- as it is when the call begins
+abbrev pub entry : {A : Type 0} → Lent A → A
+entry x = now (x .entry)
+
+-- as it is when the call is over
+abbrev pub exit : {A : Type 0} → Lent A → A
+exit x = now (x .exit)
+
+-- a list by itself, in laws
+abbrev pub plain : List ℕ → List ℕ
+plain x = x
+
+-- ---- The records
 
 -- the ten half-step numbers of a segment
 abbrev pub numbers : (e g l a b k ks h m s : ℕ) → Numbers
@@ -15,28 +38,34 @@ segment e g l a b k ks h m s cl cb kd start =
     record { numbers = numbers e g l a b k ks h m s; cl = cl; cb = cb; kd = kd; start = start }
 
 -- the fourteen lists
-abbrev pub columns : (e g l a b k ks h m s cl cb kd start : List ℕ) → Columns
-columns e g l a b k ks h m s cl cb kd start = record {
-  e = e;
-  g = g;
-  l = l;
-  a = a;
-  b = b;
-  k = k;
-  ks = ks;
-  h = h;
-  m = m;
-  s = s;
-  cl = cl;
-  cb = cb;
-  kd = kd;
-  start = start;
+abbrev pub columns : {A : Type 0} → (A → List ℕ) → (e g l a b k ks h m s cl cb kd start : A) → Columns
+columns at e g l a b k ks h m s cl cb kd start = record {
+  e = at e;
+  g = at g;
+  l = at l;
+  a = at a;
+  b = at b;
+  k = at k;
+  ks = at ks;
+  h = at h;
+  m = at m;
+  s = at s;
+  cl = at cl;
+  cb = at cb;
+  kd = at kd;
+  start = at start;
 }
 
 -- the state: its three lists, U and the count of steps done
-abbrev pub state : (channel storage sediment : List ℕ) → (upstream steps : ℕ) → State
-state channel storage sediment upstream steps =
-    record { channel = channel; storage = storage; sediment = sediment; upstream = upstream; steps = steps }
+abbrev pub state : {A : Type 0} → (A → List ℕ) → (channel storage sediment : A) → (upstream steps : ℕ) → State
+state at channel storage sediment upstream steps =
+    record { channel = at channel; storage = at storage; sediment = at sediment; upstream = upstream; steps = steps }
+
+-- the working lists of a step
+abbrev pub working : {A : Type 0} → (A → List ℕ) → (p y : A) → Working
+working at p y = record { p = at p; y = at y }
+
+-- ---- Lengths
 
 -- each of the fourteen lists has an entry for each of n segments
 pub record Long (n : ℕ) (x : Columns) : Type 0 where

@@ -5,7 +5,7 @@ use Prim.Native.Nat.{ℕ}
 use Rattle.model.specs.Refusals.{Outcome, accepted, refused}
 use Rattle.model.specs.State.{Columns, State, writeFigures}
 use Rattle.model.specs.Calls.{River, startAnswer, startState, stateAfterStart, Working, stepAnswer, stepState, stateAfterStep, stepWorking}
-use Rattle.terms.specs.Lent.{state}
+use Rattle.terms.specs.Lent.{plain, state}
 use Rattle.otis.specs.declared.Start.{Start}
 use Rattle.otis.specs.declared.Step.{Step}
 use Rattle.otis.specs.Says.{startSays, stepSays}
@@ -14,7 +14,7 @@ use Rattle.answers.specs.Answers.{handed}
 
 -- a state by its five parts
 as-state : {c z w : List ℕ} {u d : ℕ} (s : State) → c ≡ s .channel → z ≡ s .storage → w ≡ s .sediment → u ≡ s .upstream → d ≡ s .steps →
-    state c z w u d ≡ s
+    state plain c z w u d ≡ s
 as-state s e₁ e₂ e₃ e₄ e₅ = rw (e₁, e₂, e₃, e₄, e₅)
 
 module _ (n : ℕ) (x : Columns) (before : State) where
@@ -41,7 +41,7 @@ module _ (n : ℕ) (x : Columns) (before : State) where
   -- the state that a start leaves
   pub started : (u : ℕ) {r : Start} {c z w : List ℕ} {u′ d′ : ℕ} → StartOutcome n x before u r c z w →
       u′ ≡ handed (startSays r) (λ v. v .upstream) (before .upstream) → d′ ≡ handed (startSays r) (λ v. v .steps) (before .steps) →
-      state c z w u′ d′ ≡ startState n x before u
+      state plain c z w u′ d′ ≡ startState n x before u
   unfolding startState
   started u o e₁ e₂ =
       as-state (startState n x before u) (o .channel) (o .storage) (o .sediment)
@@ -51,7 +51,7 @@ module _ (n : ℕ) (x : Columns) (before : State) where
   -- the state that a step leaves
   pub stepped : (lent : Working) (u M : ℕ) {r : Step} {c z w p y : List ℕ} {u′ d′ : ℕ} → StepOutcome n x before lent u M r c z w p y →
       u′ ≡ handed (stepSays r) (λ v. v .upstream) (before .upstream) → d′ ≡ handed (stepSays r) (λ v. v .steps) (before .steps) →
-      state c z w u′ d′ ≡ stepState n x before lent u M
+      state plain c z w u′ d′ ≡ stepState n x before lent u M
   unfolding stepState
   stepped lent u M o e₁ e₂ =
       as-state (stepState n x before lent u M) (o .channel) (o .storage) (o .sediment)

@@ -5,13 +5,13 @@
 ghost use mathlib.Core.Path.{_≡_};
 ghost use mathlib.Core.List.{map};
 ghost use lib.ListN.{length};
-ghost use Rattle.model.specs.Sheet.{rowStarts, rowConcentrations, gaugeCountAt, recordField};
+ghost use Rattle.model.specs.Sheet.{dt, dx, rowStarts, rowConcentrations, gaugeCountAt, recordField};
 ghost use Rattle.model.specs.Ranges.{gaugeSection};
 ghost use Rattle.model.specs.Load.{loadAnswer, loadColumns, loadRecords};
 ghost use Rattle.model.specs.Calls.{startAnswer, startState, stepAnswer, stepState, stepWorking, reportAnswer};
 ghost use Rattle.model.specs.Upstream.{upstreamAnswer};
 ghost use Rattle.terms.specs.Says.{reachSays};
-ghost use Rattle.terms.specs.Lent.{columns, state};
+ghost use Rattle.terms.specs.Lent.{entry, exit, columns, state, working};
 ghost use Rattle.sheet.specs.Rows.{rowListTest, rowListAfter};
 ghost use Rattle.answers.specs.Answers.{foundBy, handed, Told, loadedValues};
 use answers::put_finding;
@@ -48,10 +48,14 @@ pub extern "C" fn yumbaqel_load(
     kd: &mut [u32],
     start: &mut [u32],
 )
-    ensures answer { λ _. ⌜ Told (foundBy (loadAnswer (now (sheet .entry)) (length (now (reaches .entry))) (columns (now (e .entry)) (now (g .entry)) (now (l .entry)) (now (a .entry)) (now (b .entry)) (now (k .entry)) (now (ks .entry)) (now (h .entry)) (now (m .entry)) (now (s .entry)) (now (cl .entry)) (now (cb .entry)) (now (kd .entry)) (now (start .entry))))) (now (number .exit)) (now (kind .exit)) (now (place .exit)) ⌝ }
-    ensures values { λ _. ⌜ now (loaded .exit) ≡ handed (loadAnswer (now (sheet .entry)) (length (now (reaches .entry))) (columns (now (e .entry)) (now (g .entry)) (now (l .entry)) (now (a .entry)) (now (b .entry)) (now (k .entry)) (now (ks .entry)) (now (h .entry)) (now (m .entry)) (now (s .entry)) (now (cl .entry)) (now (cb .entry)) (now (kd .entry)) (now (start .entry)))) loadedValues (now (loaded .entry)) ⌝ }
-    ensures lists { λ _. ⌜ columns (now (e .exit)) (now (g .exit)) (now (l .exit)) (now (a .exit)) (now (b .exit)) (now (k .exit)) (now (ks .exit)) (now (h .exit)) (now (m .exit)) (now (s .exit)) (now (cl .exit)) (now (cb .exit)) (now (kd .exit)) (now (start .exit)) ≡ loadColumns (now (sheet .entry)) (length (now (reaches .entry))) (columns (now (e .entry)) (now (g .entry)) (now (l .entry)) (now (a .entry)) (now (b .entry)) (now (k .entry)) (now (ks .entry)) (now (h .entry)) (now (m .entry)) (now (s .entry)) (now (cl .entry)) (now (cb .entry)) (now (kd .entry)) (now (start .entry))) ⌝ }
-    ensures records { λ _. ⌜ map reachSays (now (reaches .exit)) ≡ loadRecords (now (sheet .entry)) (map reachSays (now (reaches .entry))) (columns (now (e .entry)) (now (g .entry)) (now (l .entry)) (now (a .entry)) (now (b .entry)) (now (k .entry)) (now (ks .entry)) (now (h .entry)) (now (m .entry)) (now (s .entry)) (now (cl .entry)) (now (cb .entry)) (now (kd .entry)) (now (start .entry))) ⌝ }
+    ensures answer { λ _. ⌜ Told (foundBy (loadAnswer (entry sheet) (length (entry reaches))
+        (columns entry e g l a b k ks h m s cl cb kd start))) (exit number) (exit kind) (exit place) ⌝ }
+    ensures values { λ _. ⌜ exit loaded ≡ handed (loadAnswer (entry sheet) (length (entry reaches))
+        (columns entry e g l a b k ks h m s cl cb kd start)) loadedValues (entry loaded) ⌝ }
+    ensures lists { λ _. ⌜ columns exit e g l a b k ks h m s cl cb kd start ≡ loadColumns (entry sheet) (length (entry reaches))
+        (columns entry e g l a b k ks h m s cl cb kd start) ⌝ }
+    ensures records { λ _. ⌜ map reachSays (exit reaches) ≡ loadRecords (entry sheet) (map reachSays (entry reaches))
+        (columns entry e g l a b k ks h m s cl cb kd start) ⌝ }
 {
     let answer = loading::load(
         sheet,
@@ -102,8 +106,10 @@ pub extern "C" fn yumbaqel_start(
     done: &mut u32,
     u: u32,
 )
-    ensures answer { λ _. ⌜ Told (foundBy (startAnswer n (columns (now (e .entry)) (now (g .entry)) (now (l .entry)) (now (a .entry)) (now (b .entry)) (now (k .entry)) (now (ks .entry)) (now (h .entry)) (now (m .entry)) (now (s .entry)) (now (cl .entry)) (now (cb .entry)) (now (kd .entry)) (now (start .entry))) (state (now (channel .entry)) (now (storage .entry)) (now (sediment .entry)) (now (upstream .entry)) (now (done .entry))) u)) (now (number .exit)) (now (kind .exit)) (now (place .exit)) ⌝ }
-    ensures state { λ _. ⌜ state (now (channel .exit)) (now (storage .exit)) (now (sediment .exit)) (now (upstream .exit)) (now (done .exit)) ≡ startState n (columns (now (e .entry)) (now (g .entry)) (now (l .entry)) (now (a .entry)) (now (b .entry)) (now (k .entry)) (now (ks .entry)) (now (h .entry)) (now (m .entry)) (now (s .entry)) (now (cl .entry)) (now (cb .entry)) (now (kd .entry)) (now (start .entry))) (state (now (channel .entry)) (now (storage .entry)) (now (sediment .entry)) (now (upstream .entry)) (now (done .entry))) u ⌝ }
+    ensures answer { λ _. ⌜ Told (foundBy (startAnswer n (columns entry e g l a b k ks h m s cl cb kd start)
+        (state entry channel storage sediment (entry upstream) (entry done)) u)) (exit number) (exit kind) (exit place) ⌝ }
+    ensures state { λ _. ⌜ state exit channel storage sediment (exit upstream) (exit done) ≡ startState n
+        (columns entry e g l a b k ks h m s cl cb kd start) (state entry channel storage sediment (entry upstream) (entry done)) u ⌝ }
 {
     let answer = River::start(
         n,
@@ -160,9 +166,13 @@ pub extern "C" fn yumbaqel_step(
     u: u32,
     steps: u32,
 )
-    ensures answer { λ _. ⌜ Told (foundBy (stepAnswer n (columns (now (e .entry)) (now (g .entry)) (now (l .entry)) (now (a .entry)) (now (b .entry)) (now (k .entry)) (now (ks .entry)) (now (h .entry)) (now (m .entry)) (now (s .entry)) (now (cl .entry)) (now (cb .entry)) (now (kd .entry)) (now (start .entry))) (state (now (channel .entry)) (now (storage .entry)) (now (sediment .entry)) (now (upstream .entry)) (now (done .entry))) (record { p = now (p .entry); y = now (y .entry) }) u steps)) (now (number .exit)) (now (kind .exit)) (now (place .exit)) ⌝ }
-    ensures state { λ _. ⌜ state (now (channel .exit)) (now (storage .exit)) (now (sediment .exit)) (now (upstream .exit)) (now (done .exit)) ≡ stepState n (columns (now (e .entry)) (now (g .entry)) (now (l .entry)) (now (a .entry)) (now (b .entry)) (now (k .entry)) (now (ks .entry)) (now (h .entry)) (now (m .entry)) (now (s .entry)) (now (cl .entry)) (now (cb .entry)) (now (kd .entry)) (now (start .entry))) (state (now (channel .entry)) (now (storage .entry)) (now (sediment .entry)) (now (upstream .entry)) (now (done .entry))) (record { p = now (p .entry); y = now (y .entry) }) u steps ⌝ }
-    ensures working { λ _. ⌜ record { p = now (p .exit); y = now (y .exit) } ≡ stepWorking n (columns (now (e .entry)) (now (g .entry)) (now (l .entry)) (now (a .entry)) (now (b .entry)) (now (k .entry)) (now (ks .entry)) (now (h .entry)) (now (m .entry)) (now (s .entry)) (now (cl .entry)) (now (cb .entry)) (now (kd .entry)) (now (start .entry))) (state (now (channel .entry)) (now (storage .entry)) (now (sediment .entry)) (now (upstream .entry)) (now (done .entry))) (record { p = now (p .entry); y = now (y .entry) }) u steps ⌝ }
+    ensures answer { λ _. ⌜ Told (foundBy (stepAnswer n (columns entry e g l a b k ks h m s cl cb kd start)
+        (state entry channel storage sediment (entry upstream) (entry done)) (working entry p y) u steps)) (exit number) (exit kind) (exit place) ⌝ }
+    ensures state { λ _. ⌜ state exit channel storage sediment (exit upstream) (exit done) ≡ stepState n
+        (columns entry e g l a b k ks h m s cl cb kd start) (state entry channel storage sediment (entry upstream) (entry done))
+        (working entry p y) u steps ⌝ }
+    ensures working { λ _. ⌜ working exit p y ≡ stepWorking n (columns entry e g l a b k ks h m s cl cb kd start)
+        (state entry channel storage sediment (entry upstream) (entry done)) (working entry p y) u steps ⌝ }
 {
     let river = River {
         upstream: *upstream,
@@ -226,10 +236,14 @@ pub extern "C" fn yumbaqel_report(
     done: u32,
     segment: u32,
 )
-    ensures answer { λ _. ⌜ Told (foundBy (reportAnswer n (columns (now (e .entry)) (now (g .entry)) (now (l .entry)) (now (a .entry)) (now (b .entry)) (now (k .entry)) (now (ks .entry)) (now (h .entry)) (now (m .entry)) (now (s .entry)) (now (cl .entry)) (now (cb .entry)) (now (kd .entry)) (now (start .entry))) (state (now (channel .entry)) (now (storage .entry)) (now (sediment .entry)) upstream done) segment)) (now (number .exit)) (now (kind .exit)) (now (place .exit)) ⌝ }
-    ensures c { λ _. ⌜ now (c .exit) ≡ handed (reportAnswer n (columns (now (e .entry)) (now (g .entry)) (now (l .entry)) (now (a .entry)) (now (b .entry)) (now (k .entry)) (now (ks .entry)) (now (h .entry)) (now (m .entry)) (now (s .entry)) (now (cl .entry)) (now (cb .entry)) (now (kd .entry)) (now (start .entry))) (state (now (channel .entry)) (now (storage .entry)) (now (sediment .entry)) upstream done) segment) (λ v. v .channel) (now (c .entry)) ⌝ }
-    ensures z { λ _. ⌜ now (z .exit) ≡ handed (reportAnswer n (columns (now (e .entry)) (now (g .entry)) (now (l .entry)) (now (a .entry)) (now (b .entry)) (now (k .entry)) (now (ks .entry)) (now (h .entry)) (now (m .entry)) (now (s .entry)) (now (cl .entry)) (now (cb .entry)) (now (kd .entry)) (now (start .entry))) (state (now (channel .entry)) (now (storage .entry)) (now (sediment .entry)) upstream done) segment) (λ v. v .storage) (now (z .entry)) ⌝ }
-    ensures kdw { λ _. ⌜ now (kdw .exit) ≡ handed (reportAnswer n (columns (now (e .entry)) (now (g .entry)) (now (l .entry)) (now (a .entry)) (now (b .entry)) (now (k .entry)) (now (ks .entry)) (now (h .entry)) (now (m .entry)) (now (s .entry)) (now (cl .entry)) (now (cb .entry)) (now (kd .entry)) (now (start .entry))) (state (now (channel .entry)) (now (storage .entry)) (now (sediment .entry)) upstream done) segment) (λ v. v .sediment) (now (kdw .entry)) ⌝ }
+    ensures answer { λ _. ⌜ Told (foundBy (reportAnswer n (columns entry e g l a b k ks h m s cl cb kd start)
+        (state entry channel storage sediment upstream done) segment)) (exit number) (exit kind) (exit place) ⌝ }
+    ensures c { λ _. ⌜ exit c ≡ handed (reportAnswer n (columns entry e g l a b k ks h m s cl cb kd start)
+        (state entry channel storage sediment upstream done) segment) (λ v. v .channel) (entry c) ⌝ }
+    ensures z { λ _. ⌜ exit z ≡ handed (reportAnswer n (columns entry e g l a b k ks h m s cl cb kd start)
+        (state entry channel storage sediment upstream done) segment) (λ v. v .storage) (entry z) ⌝ }
+    ensures kdw { λ _. ⌜ exit kdw ≡ handed (reportAnswer n (columns entry e g l a b k ks h m s cl cb kd start)
+        (state entry channel storage sediment upstream done) segment) (λ v. v .sediment) (entry kdw) ⌝ }
 {
     let river = River {
         upstream: upstream,
@@ -271,8 +285,8 @@ pub extern "C" fn yumbaqel_upstream(
     steps: u32,
     j: u32,
 )
-    ensures answer { λ _. ⌜ Told (foundBy (upstreamAnswer steps j (now (starts .entry)) (now (concentrations .entry)))) (now (number .exit)) (now (kind .exit)) (now (place .exit)) ⌝ }
-    ensures u { λ _. ⌜ now (u .exit) ≡ handed (upstreamAnswer steps j (now (starts .entry)) (now (concentrations .entry))) (λ v. v) (now (u .entry)) ⌝ }
+    ensures answer { λ _. ⌜ Told (foundBy (upstreamAnswer steps j (entry starts) (entry concentrations))) (exit number) (exit kind) (exit place) ⌝ }
+    ensures u { λ _. ⌜ exit u ≡ handed (upstreamAnswer steps j (entry starts) (entry concentrations)) (λ v. v) (entry u) ⌝ }
 {
     let answer = boundary::rows::upstream(starts, concentrations, steps, j);
     put_upstream(answer, number, kind, place, u);
@@ -288,9 +302,11 @@ pub extern "C" fn yumbaqel_rows(
     starts: &mut [u32],
     concentrations: &mut [u32],
 )
-    ensures answer { λ _. ⌜ Told (rowListTest (now (sheet .entry)) (now (starts .entry)) (now (concentrations .entry))) (now (number .exit)) (now (kind .exit)) (now (place .exit)) ⌝ }
-    ensures starts { λ _. ⌜ now (starts .exit) ≡ rowListAfter (rowListTest (now (sheet .entry)) (now (starts .entry)) (now (concentrations .entry))) (rowStarts (now (sheet .entry))) (now (starts .entry)) ⌝ }
-    ensures concentrations { λ _. ⌜ now (concentrations .exit) ≡ rowListAfter (rowListTest (now (sheet .entry)) (now (starts .entry)) (now (concentrations .entry))) (rowConcentrations (now (sheet .entry))) (now (concentrations .entry)) ⌝ }
+    ensures answer { λ _. ⌜ Told (rowListTest (entry sheet) (entry starts) (entry concentrations)) (exit number) (exit kind) (exit place) ⌝ }
+    ensures starts { λ _. ⌜ exit starts ≡ rowListAfter (rowListTest (entry sheet) (entry starts) (entry concentrations))
+        (rowStarts (entry sheet)) (entry starts) ⌝ }
+    ensures concentrations { λ _. ⌜ exit concentrations ≡ rowListAfter (rowListTest (entry sheet) (entry starts) (entry concentrations))
+        (rowConcentrations (entry sheet)) (entry concentrations) ⌝ }
 {
     let found = sheet::rows::copy_rows(sheet, starts, concentrations);
     put_finding(found, number, kind, place);
@@ -299,7 +315,31 @@ pub extern "C" fn yumbaqel_rows(
 // Gauge j of a sheet, a segment's number; j counts from 0. Bytes past the sheet's end count as 0.
 #[no_mangle]
 pub extern "C" fn yumbaqel_gauge(sheet: &[u8], j: usize) -> u32
-    ensures { λ r. ⌜ r ≡ recordField (now (sheet .entry)) (gaugeCountAt (now (sheet .entry))) gaugeSection j 0 ⌝ }
+    ensures { λ r. ⌜ r ≡ recordField (entry sheet) (gaugeCountAt (entry sheet)) gaugeSection j 0 ⌝ }
 {
     sheet::fields::gauge(sheet, j)
+}
+
+// dt of a sheet, in seconds. Bytes past the sheet's end count as 0.
+#[no_mangle]
+pub extern "C" fn yumbaqel_dt(sheet: &[u8]) -> u32
+    ensures { λ r. ⌜ r ≡ dt (entry sheet) ⌝ }
+{
+    sheet::fields::dt(sheet)
+}
+
+// dx of a sheet, in cm. Bytes past the sheet's end count as 0.
+#[no_mangle]
+pub extern "C" fn yumbaqel_dx(sheet: &[u8]) -> u32
+    ensures { λ r. ⌜ r ≡ dx (entry sheet) ⌝ }
+{
+    sheet::fields::dx(sheet)
+}
+
+// The version of this interface, 1.1.0: the first number times 10,000, the second times 100 and the third.
+#[no_mangle]
+pub extern "C" fn yumbaqel_version() -> u32
+    ensures { λ r. ⌜ r ≡ 10100 ⌝ }
+{
+    10100
 }

@@ -4,22 +4,22 @@ use native.Mathlib.Omega.{arith}
 use borrow.Author.Needs.{needs}
 use Rattle.model.specs.Sheet.{reaches}
 use Rattle.model.specs.Flow.{courseOf}
-use Rattle.terms.specs.Lent.{columns}
-use Rattle.halfstep.proofs.Segments.{Walked}
-use Rattle.course.proofs.River.{few, clear-site, passes-site, numbers-are, walked-start, stands, walks-here, walked-here}
+use Rattle.terms.specs.Lent.{plain, columns}
+use Rattle.halfstep.proofs.Segments.{Descended}
+use Rattle.course.proofs.River.{few, clear-site, passes-site, numbers-are, descended-start, stands, descends-here, descended-here}
 use Rattle.columns.proofs.Writing.{Writing, writing-start, writing-turn, writing-end, segment-is}
 use Rattle.columns.proofs.fill.Statement.{statement}
 use Rattle.columns.proofs.fill.Tie as tie
 
 abbrev Inv-loop : tie.InvT-loop
 Inv-loop sheet n e₀ g₀ l₀ a₀ b₀ k₀ ks₀ h₀ m₀ s₀ cl₀ cb₀ kd₀ start₀ step at₀ i₀ e g l a b k ks h m s cl cb kd start at i =
-    Walked (reaches sheet) (courseOf sheet) i at × Writing (courseOf sheet) (columns e₀ g₀ l₀ a₀ b₀ k₀ ks₀ h₀ m₀ s₀ cl₀ cb₀ kd₀ start₀) i (columns e g l a b k ks h m s cl cb kd start) × (i ≤ n)
+    Descended (reaches sheet) (courseOf sheet) i at × Writing (courseOf sheet) (columns plain e₀ g₀ l₀ a₀ b₀ k₀ ks₀ h₀ m₀ s₀ cl₀ cb₀ kd₀ start₀) i (columns plain e g l a b k ks h m s cl cb kd start) × (i ≤ n)
 
 abbrev μ-loop : tie.MeasureT-loop
 μ-loop sheet n e₀ g₀ l₀ a₀ b₀ k₀ ks₀ h₀ m₀ s₀ cl₀ cb₀ kd₀ start₀ step at₀ i₀ e g l a b k ks h m s cl cb kd start at i = n - i
 
 loop-holds : tie.Need-loop-holds Inv-loop μ-loop
-loop-holds c = (walked-start (c .before .before .before .before .before .before .before .before .before .before .before .before .before .before .before .before .before .before .pre .0) (c .before .reach .ensures) (c .start .ensures), writing-start, omega arith)
+loop-holds c = (descended-start (c .before .before .before .before .before .before .before .before .before .before .before .before .before .before .before .before .before .before .pre .0) (c .before .reach .ensures) (c .start .ensures), writing-start, omega arith)
 
 site-requires : tie.Need-site-requires Inv-loop μ-loop
 site-requires c κs = (c .before .before .before .before .before .before .before .before .before .before .before .before .before .before .before .before .before .before .before .before .pre .0, c .loop-test .taken, stands _ _ _ (c .before .loop .inv .0))
@@ -71,7 +71,7 @@ slice-write-start c = omega (arith, c .before .before .before .loop-test .taken,
 
 next-requires : tie.Need-next-requires Inv-loop μ-loop
 next-requires c κs =
-    walks-here (c .before .before .before .before .before .before .before .before .before .before .before .before .before .before .before .before .before .before .before .before .before .before .before .pre .0) (c .before .before .before .loop-test .taken) (c .before .before .before .before .loop .inv .0) (c .before .before .site .ensures) (c .before .before .before .before .before .before .before .dx .ensures)
+    descends-here (c .before .before .before .before .before .before .before .before .before .before .before .before .before .before .before .before .before .before .before .before .before .before .before .pre .0) (c .before .before .before .loop-test .taken) (c .before .before .before .before .loop .inv .0) (c .before .before .site .ensures) (c .before .before .before .before .before .before .before .dx .ensures)
 
 loop-again : tie.Need-loop-again Inv-loop μ-loop
 loop-again c =
@@ -79,7 +79,7 @@ loop-again c =
     let h = c .before .before .before .before .loop-test .taken in
     let inv = c .before .before .before .before .before .loop .inv in
     let s = c .before .before .before .site .ensures in (
-      walked-here (p .0) h (inv .0) s (c .before .before .before .before .before .before .before .before .dx .ensures) (c .next .ensures),
+      descended-here (p .0) h (inv .0) s (c .before .before .before .before .before .before .before .before .dx .ensures) (c .next .ensures),
       writing-turn (inv .1) (p .2) h (segment-is _ _ (c .before .numbers .result) (c .before .before .before .site .result .own) (numbers-are s (p .1) h (c .before .numbers .ensures)) (s .own)),
       omega (arith, h),
     )

@@ -7,22 +7,22 @@ use Rattle.lists.proofs.Lowest.{Searching, searching-start, searching-miss}
 use Rattle.model.specs.Sheet.{reaches}
 use Rattle.model.specs.Flow.{courseOf}
 use Rattle.model.specs.Refusals.{segment}
-use Rattle.halfstep.proofs.Segments.{Walked}
+use Rattle.halfstep.proofs.Segments.{Descended}
 use Rattle.sheet.proofs.Tests.{each-found, each-clear}
 use Rattle.course.specs.Segments.{courseFault}
-use Rattle.course.proofs.River.{few, clear-site, site-fault, walked-start, stands, walks-here, walked-here}
+use Rattle.course.proofs.River.{few, clear-site, site-fault, descended-start, stands, descends-here, descended-here}
 use Rattle.course.proofs.course_test.Statement.{statement}
 use Rattle.course.proofs.course_test.Tie as tie
 
 abbrev Inv-loop : tie.InvT-loop
 Inv-loop sheet n number step at₀ i₀ at i =
-    Walked (reaches sheet) (courseOf sheet) i at × Searching (courseFault number (courseOf sheet)) n i
+    Descended (reaches sheet) (courseOf sheet) i at × Searching (courseFault number (courseOf sheet)) n i
 
 abbrev μ-loop : tie.MeasureT-loop
 μ-loop sheet n number step at₀ i₀ at i = n - i
 
 loop-holds : tie.Need-loop-holds Inv-loop μ-loop
-loop-holds c = (walked-start (c .before .before .before .before .pre .0) (c .before .reach .ensures) (c .start .ensures), searching-start)
+loop-holds c = (descended-start (c .before .before .before .before .pre .0) (c .before .reach .ensures) (c .start .ensures), searching-start)
 
 site-requires : tie.Need-site-requires Inv-loop μ-loop
 site-requires c κs = (c .before .before .before .before .before .before .pre .0, c .loop-test .taken, stands _ _ _ (c .before .loop .inv .0))
@@ -46,11 +46,11 @@ returns c = each-found _ segment (c .before .before .before .before .loop .inv .
 
 next-requires : tie.Need-next-requires Inv-loop μ-loop
 next-requires c κs =
-    walks-here (c .before .before .before .before .before .before .before .before .before .pre .0) (c .before .before .before .loop-test .taken) (c .before .before .before .before .loop .inv .0) (c .before .before .site .ensures) (c .before .before .before .before .before .before .before .dx .ensures)
+    descends-here (c .before .before .before .before .before .before .before .before .before .pre .0) (c .before .before .before .loop-test .taken) (c .before .before .before .before .loop .inv .0) (c .before .before .site .ensures) (c .before .before .before .before .before .before .before .dx .ensures)
 
 loop-again : tie.Need-loop-again Inv-loop μ-loop
 loop-again c = (
-  walked-here (c .before .before .before .before .before .before .before .before .before .before .pre .0) (c .before .before .before .before .loop-test .taken) (c .before .before .before .before .before .loop .inv .0) (c .before .before .before .site .ensures) (c .before .before .before .before .before .before .before .before .dx .ensures) (c .next .ensures),
+  descended-here (c .before .before .before .before .before .before .before .before .before .before .pre .0) (c .before .before .before .before .loop-test .taken) (c .before .before .before .before .before .loop .inv .0) (c .before .before .before .site .ensures) (c .before .before .before .before .before .before .before .before .dx .ensures) (c .next .ensures),
   searching-miss (c .before .before .before .before .before .loop .inv .1) (c .before .before .before .before .loop-test .taken) (found (c .before .before) ∙ c .before .if1 .left),
 )
 

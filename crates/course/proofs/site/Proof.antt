@@ -2,20 +2,20 @@
 use borrow.Author.Needs.{needs}
 use Rattle.model.specs.Sheet.{dx}
 use Rattle.terms.specs.Says.{reachSays}
-use Rattle.halfstep.specs.Walk.{Walks}
-use Rattle.course.proofs.River.{stood, walks-read, site-read}
+use Rattle.halfstep.specs.Descent.{Descends}
+use Rattle.course.proofs.River.{stood, descends-read, site-read}
 use Rattle.course.proofs.site.Statement.{statement}
 use Rattle.course.proofs.site.Tie as tie
 
--- what the walk has at this segment
-walks : (c : tie.After-reach) → Walks (dx (c .before .before .before .args .sheet .now)) (reachSays (c .reach .result)) (c .before .before .before .args .at)
-walks c = let p = c .before .before .before .pre in walks-read (p .0) (p .1) (stood _ _ _ (p .2)) (c .reach .ensures)
+-- what the descent has at this segment
+descends : (c : tie.After-reach) → Descends (dx (c .before .before .before .args .sheet .now)) (reachSays (c .reach .result)) (c .before .before .before .args .at)
+descends c = let p = c .before .before .before .pre in descends-read (p .0) (p .1) (stood _ _ _ (p .2)) (c .reach .ensures)
 
 below-requires : tie.Need-below-requires
-below-requires c κs = (walks c .passed, walks c .reach)
+below-requires c κs = (descends c .passed, descends c .reach)
 
 new-requires : tie.Need-new-requires
-new-requires c κs = walks (c .before .before .before .before .before) .gain
+new-requires c κs = descends (c .before .before .before .before .before) .gain
 
 returns : tie.Need-returns
 returns c =

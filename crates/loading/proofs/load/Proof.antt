@@ -1,6 +1,6 @@
 -- `load` meets its contract: the loading proper answers and writes the fourteen lists, `fill_count` says by its answer how many records
 -- are due, and `fill` puts them in. Every list is passed on.
--- Written by tools/walks.py. Assumes nothing.
+-- Written by tools/hand_proofs.py. Assumes nothing.
 use mathlib.Core.Path.{_≡_, refl, sym, ap, subst, _∙_}
 use mathlib.Core.List.{List, [], _∷_, map}
 use Prim.Native.Nat.{ℕ}
@@ -43,19 +43,19 @@ use denote.Enum.Laws as EL
 use Rattle.model.specs.Sheet.{reachCount}
 use Rattle.model.specs.Load.{loadAnswer, loadColumns, loadRecords}
 use Rattle.terms.specs.Says.{reachSays}
-use Rattle.loader.specs.Says.{loadSays}
-use Rattle.loader.specs.declared.Load.{Load}
-use Rattle.loader.proofs.Load as S
-use Rattle.loader.proofs.Load.Laws as S′
+use Rattle.assembly.specs.Says.{loadSays}
+use Rattle.assembly.specs.declared.Load.{Load}
+use Rattle.assembly.proofs.Load as S
+use Rattle.assembly.proofs.Load.Laws as S′
 use Rattle.terms.specs.declared.Reach.{Reach}
 use Rattle.terms.proofs.Reach as T
 use Rattle.terms.proofs.Reach.Laws as T′
 use Rattle.records.specs.Records.{filled, fillCount}
 use Rattle.records.proofs.Filled.{load-records}
-use Rattle.loader.proofs.Loaded.load as core
-use Rattle.loader.proofs.Loaded.load.Symbol as core-def
-use Rattle.loader.proofs.Loaded.load.Symbol.{name as #core}
-use Rattle.loader.proofs.Loaded.load.Met as core-thm
+use Rattle.assembly.proofs.Loaded.assemble as core
+use Rattle.assembly.proofs.Loaded.assemble.Symbol as core-def
+use Rattle.assembly.proofs.Loaded.assemble.Symbol.{name as #core}
+use Rattle.assembly.proofs.Loaded.assemble.Met as core-thm
 use Rattle.records.proofs.fill_count as count
 use Rattle.records.proofs.fill_count.Symbol as count-def
 use Rattle.records.proofs.fill_count.Symbol.{name as #count}
@@ -104,7 +104,7 @@ module _ {M : Type 1} (𝓤 : URA M) (H : Heap 𝓤) (A : Atoms 𝓤) (W : Given
   abbrev Table : Fml
   Table = MutSlice (named 0) (κs .1 .0) T.the-row .own x (sliceVal (x .ptr) (length (x .now)) ∷ [])
 
-  -- `Loaded::load`: what its triple binds outside, what it takes, and what it says of its answer and of the lists
+  -- `Loaded::assemble`: what its triple binds outside, what it takes, and what it says of its answer and of the lists
   abbrev core-κs : Lfts 15
   core-κs = (κs .0, κs .1 .1)
 
@@ -194,7 +194,7 @@ module _ {M : Type 1} (𝓤 : URA M) (H : Heap 𝓤) (A : Atoms 𝓤) (W : Given
     abbrev fm : FmC 𝓤 H (W .laws) (𝓣 .C)
     fm = fmOf 𝓤 H (W .laws) 𝓣
 
-    walk : ent 𝓤 (onEntry 𝓤 H A the-fn.signature κs qs a at) (WpFn 𝓤 H (𝓣 .C) (𝓣 .Λ) code.function (sliceVal (y .ptr) (length (y .now)) ∷ sliceVal (x .ptr) (length (x .now)) ∷
+    trace : ent 𝓤 (onEntry 𝓤 H A the-fn.signature κs qs a at) (WpFn 𝓤 H (𝓣 .C) (𝓣 .Λ) code.function (sliceVal (y .ptr) (length (y .now)) ∷ sliceVal (x .ptr) (length (x .now)) ∷
         sliceVal ((z .0) .ptr) (length ((z .0) .now)) ∷ sliceVal ((z .1 .0) .ptr) (length ((z .1 .0) .now)) ∷ sliceVal ((z .1 .1 .0) .ptr) (length ((z .1 .1 .0) .now)) ∷
         sliceVal ((z .1 .1 .1 .0) .ptr) (length ((z .1 .1 .1 .0) .now)) ∷ sliceVal ((z .1 .1 .1 .1 .0) .ptr) (length ((z .1 .1 .1 .1 .0) .now)) ∷
         sliceVal ((z .1 .1 .1 .1 .1 .0) .ptr) (length ((z .1 .1 .1 .1 .1 .0) .now)) ∷ sliceVal ((z .1 .1 .1 .1 .1 .1 .0) .ptr) (length ((z .1 .1 .1 .1 .1 .1 .0) .now)) ∷
@@ -205,7 +205,7 @@ module _ {M : Type 1} (𝓤 : URA M) (H : Heap 𝓤) (A : Atoms 𝓤) (W : Given
         sliceVal ((z .1 .1 .1 .1 .1 .1 .1 .1 .1 .1 .1 .0) .ptr) (length ((z .1 .1 .1 .1 .1 .1 .1 .1 .1 .1 .1 .0) .now)) ∷
         sliceVal ((z .1 .1 .1 .1 .1 .1 .1 .1 .1 .1 .1 .1 .0) .ptr) (length ((z .1 .1 .1 .1 .1 .1 .1 .1 .1 .1 .1 .1 .0) .now)) ∷
         sliceVal ((z .1 .1 .1 .1 .1 .1 .1 .1 .1 .1 .1 .1 .1 .0) .ptr) (length ((z .1 .1 .1 .1 .1 .1 .1 .1 .1 .1 .1 .1 .1 .0) .now)) ∷ []) Post)
-    walk =
+    trace =
         qed W ((‵ (flft (κs .0) (qs .0)) ⊛ (‵ (flft (κs .1 .0) (qs .1 .0)) ⊛ raw (toks 𝓤 A 14 (κs .1 .1) (qs .1 .1)))) ∷
         ‵ (fsep Sheet (fsep Table (owns (rows 14 (κs .1 .1)) z (values 14 z)))) ∷ []) ∵ enter ! (𝓣 .C) (𝓣 .Λ) code.function (sliceVal (y .ptr) (length (y .now)) ∷
         sliceVal (x .ptr) (length (x .now)) ∷ sliceVal ((z .0) .ptr) (length ((z .0) .now)) ∷ sliceVal ((z .1 .0) .ptr) (length ((z .1 .0) .now)) ∷
@@ -264,7 +264,7 @@ module _ {M : Type 1} (𝓤 : URA M) (H : Heap 𝓤) (A : Atoms 𝓤) (W : Given
         assigns ! (agg ! (and-then ! (load ! (from ! (stop !)) (look ! 12 refl)) (and-then ! (load ! (from ! (fld ! refl (stop !))) (look-in ! 68 (sub ! 1 refl (whole !)))) (no-more !)))) (from ! (stop !)) (init ! 10 refl (tt, (tt, (record { fits = (z-room .1 .1 .1 .1 .1 .1 .1 .1 .1 .1 .1 .1 .0) .0 }, tt)))) $
         assigns ! (addr ! (from ! (fld ! refl (hop ! (look-in ! 66 (sub ! 0 refl (whole !))) (stop !))))) (from ! (stop !)) (init ! 8 refl (tt, tt)) $
         assigns ! (agg ! (and-then ! (load ! (from ! (stop !)) (look ! 8 refl)) (and-then ! (load ! (from ! (fld ! refl (stop !))) (look-in ! 66 (sub ! 1 refl (whole !)))) (no-more !)))) (from ! (stop !)) (init ! 6 refl (tt, (tt, (record { fits = (z-room .1 .1 .1 .1 .1 .1 .1 .1 .1 .1 .1 .1 .1 .0) .0 }, tt)))) $
-        -- `Loaded::load`
+        -- `Loaded::assemble`
         move ! (100 ∷ []) $ split ! $ move ! (1 ∷ []) $ split ! $ move ! (2 ∷ 1 ∷ []) $ join ! $ move ! (102 ∷ []) $ fsplit ! $ move ! (1 ∷ []) $ fsplit ! $ move ! (3 ∷ 2 ∷ 1 ∷
         []) $
         use3 W (raw (Core 𝓤 H A at-mem run .pre to-core) ⊛ ‵ Sheet) goes-core $ split ! $
@@ -342,19 +342,19 @@ module _ {M : Type 1} (𝓤 : URA M) (H : Heap 𝓤) (A : Atoms 𝓤) (W : Given
         by ! (exits r u (ws .1 .1) (ts .0) n answers writes counts fills same long is))))))))))))))))))))))))))))))))))))))))))))))))))))))))))))))))))))
 
 module _ {M : Type 1} (𝓤 : URA M) (H : Heap 𝓤) (A : Atoms 𝓤) (W : Given 𝓤 H A) (at-mem : Memory → SProp 𝓤) (run : Routine → Fun 𝓤) where
-  walks : (𝓣 : Tables 𝓤 H) → Triple 𝓤 (𝓣 .C #core) (Core 𝓤 H A at-mem run) → Triple 𝓤 (𝓣 .C #count) (Count 𝓤 H A at-mem run) → Triple 𝓤 (𝓣 .C #fill) (Fill 𝓤 H A at-mem run) →
+  traces : (𝓣 : Tables 𝓤 H) → Triple 𝓤 (𝓣 .C #core) (Core 𝓤 H A at-mem run) → Triple 𝓤 (𝓣 .C #count) (Count 𝓤 H A at-mem run) → Triple 𝓤 (𝓣 .C #fill) (Fill 𝓤 H A at-mem run) →
       Walks 𝓤 H A the-fn.ended stayed (WpFn 𝓤 H (𝓣 .C) (𝓣 .Λ) code.function) (the-fn.clauses 𝓤 H A at-mem run)
-  walks 𝓣 known-core known-count known-fill =
+  traces 𝓣 known-core known-count known-fill =
       walked 𝓤 H A the-fn.ended stayed (the-fn.clauses 𝓤 H A at-mem run) (WpFn 𝓤 H (𝓣 .C) (𝓣 .Λ) code.function)
       (λ κs. (slice-vals, (slice-vals, (slice-vals, (slice-vals, (slice-vals, (slice-vals, (slice-vals, (slice-vals, (slice-vals, (slice-vals, (slice-vals, (slice-vals, (slice-vals, (slice-vals, (slice-vals, (slice-vals, tt))))))))))))))))) (λ κs. (shr-slice-tells (named 0) (κs .0) u8, (mut-slice-tells (named 1) (κs .1 .0) T.the-row, (mut-slice-tells (named 2) (κs .1 .1 .0) u32, (mut-slice-tells (named 3) (κs .1 .1 .1 .0) u32, (mut-slice-tells (named 4) (κs .1 .1 .1 .1 .0) u32, (mut-slice-tells (named 5) (κs .1 .1 .1 .1 .1 .0) u32, (mut-slice-tells (named 6) (κs .1 .1 .1 .1 .1 .1 .0) u32, (mut-slice-tells (named 7) (κs .1 .1 .1 .1 .1 .1 .1 .0) u32, (mut-slice-tells (named 8) (κs .1 .1 .1 .1 .1 .1 .1 .1 .0) u32, (mut-slice-tells (named 9) (κs .1 .1 .1 .1 .1 .1 .1 .1 .1 .0) u32, (mut-slice-tells (named 10) (κs .1 .1 .1 .1 .1 .1 .1 .1 .1 .1 .0) u32, (mut-slice-tells (named 11) (κs .1 .1 .1 .1 .1 .1 .1 .1 .1 .1 .1 .0) u32, (mut-slice-tells (named 12) (κs .1 .1 .1 .1 .1 .1 .1 .1 .1 .1 .1 .1 .0) u32, (mut-slice-tells (named 13) (κs .1 .1 .1 .1 .1 .1 .1 .1 .1 .1 .1 .1 .1 .0) u32, (mut-slice-tells (named 14) (κs .1 .1 .1 .1 .1 .1 .1 .1 .1 .1 .1 .1 .1 .1 .0) u32, (mut-slice-tells (named 15) (κs .1 .1 .1 .1 .1 .1 .1 .1 .1 .1 .1 .1 .1 .1 .1 .0) u32, tt)))))))))))))))))
-      (λ κs qs bounds a g are. via 𝓤 _ (fst∗ 𝓤 _ (emp 𝓤)) (walk 𝓤 H A W at-mem run κs qs (a .0) (a .1 .0) (a .1 .1) (are .0 .0 .1) (are .1 .0 .0 .1) (are .1 .1 .0 .0 .1, (are .1 .1 .1 .0 .0 .1, (are .1 .1 .1 .1 .0 .0 .1, (are .1 .1 .1 .1 .1 .0 .0 .1, (are .1 .1 .1 .1 .1 .1 .0 .0 .1, (are .1 .1 .1 .1 .1 .1 .1 .0 .0 .1, (are .1 .1 .1 .1 .1 .1 .1 .1 .0 .0 .1, (are .1 .1 .1 .1 .1 .1 .1 .1 .1 .0 .0 .1, (are .1 .1 .1 .1 .1 .1 .1 .1 .1 .1 .0 .0 .1, (are .1 .1 .1 .1 .1 .1 .1 .1 .1 .1 .1 .0 .0 .1, (are .1 .1 .1 .1 .1 .1 .1 .1 .1 .1 .1 .1 .0 .0 .1, (are .1 .1 .1 .1 .1 .1 .1 .1 .1 .1 .1 .1 .1 .0 .0 .1, (are .1 .1 .1 .1 .1 .1 .1 .1 .1 .1 .1 .1 .1 .1 .0 .0 .1, (are .1 .1 .1 .1 .1 .1 .1 .1 .1 .1 .1 .1 .1 .1 .1 .0 .0 .1, tt)))))))))))))) 𝓣 known-core known-count known-fill))
+      (λ κs qs bounds a g are. via 𝓤 _ (fst∗ 𝓤 _ (emp 𝓤)) (trace 𝓤 H A W at-mem run κs qs (a .0) (a .1 .0) (a .1 .1) (are .0 .0 .1) (are .1 .0 .0 .1) (are .1 .1 .0 .0 .1, (are .1 .1 .1 .0 .0 .1, (are .1 .1 .1 .1 .0 .0 .1, (are .1 .1 .1 .1 .1 .0 .0 .1, (are .1 .1 .1 .1 .1 .1 .0 .0 .1, (are .1 .1 .1 .1 .1 .1 .1 .0 .0 .1, (are .1 .1 .1 .1 .1 .1 .1 .1 .0 .0 .1, (are .1 .1 .1 .1 .1 .1 .1 .1 .1 .0 .0 .1, (are .1 .1 .1 .1 .1 .1 .1 .1 .1 .1 .0 .0 .1, (are .1 .1 .1 .1 .1 .1 .1 .1 .1 .1 .1 .0 .0 .1, (are .1 .1 .1 .1 .1 .1 .1 .1 .1 .1 .1 .1 .0 .0 .1, (are .1 .1 .1 .1 .1 .1 .1 .1 .1 .1 .1 .1 .1 .0 .0 .1, (are .1 .1 .1 .1 .1 .1 .1 .1 .1 .1 .1 .1 .1 .1 .0 .0 .1, (are .1 .1 .1 .1 .1 .1 .1 .1 .1 .1 .1 .1 .1 .1 .1 .0 .0 .1, tt)))))))))))))) 𝓣 known-core known-count known-fill))
 
 meets : {M : Type 1} (𝓤 : URA M) (H : Heap 𝓤) (A : Atoms 𝓤) → Given 𝓤 H A → (at-mem : Memory → SProp 𝓤) (run : Routine → Fun 𝓤) (𝓣 : Tables 𝓤 H) →
     Triple 𝓤 (𝓣 .C #core) (Core 𝓤 H A at-mem run) → Triple 𝓤 (𝓣 .C #count) (Count 𝓤 H A at-mem run) → Triple 𝓤 (𝓣 .C #fill) (Fill 𝓤 H A at-mem run) →
     Meets 𝓤 H A the-fn.signature (WpFn 𝓤 H (𝓣 .C) (𝓣 .Λ) code.function) (the-fn.spec 𝓤 H A at-mem run)
 meets 𝓤 H A W at-mem run 𝓣 known-core known-count known-fill =
     walk-meets 𝓤 H A the-fn.ended stayed W (goes-none-slice 𝓤 H A W 16 (0 ∷ []) tt (plain (λ _. u8)) yes, (goes-gave-slice 𝓤 H A W 16 1 tt (plain (λ _. T.the-row)), (goes-gave-slice 𝓤 H A W 16 2 tt (plain (λ _. u32)), (goes-gave-slice 𝓤 H A W 16 3 tt (plain (λ _. u32)), (goes-gave-slice 𝓤 H A W 16 4 tt (plain (λ _. u32)), (goes-gave-slice 𝓤 H A W 16 5 tt (plain (λ _. u32)), (goes-gave-slice 𝓤 H A W 16 6 tt (plain (λ _. u32)), (goes-gave-slice 𝓤 H A W 16 7 tt (plain (λ _. u32)), (goes-gave-slice 𝓤 H A W 16 8 tt (plain (λ _. u32)), (goes-gave-slice 𝓤 H A W 16 9 tt (plain (λ _. u32)), (goes-gave-slice 𝓤 H A W 16 10 tt (plain (λ _. u32)), (goes-gave-slice 𝓤 H A W 16 11 tt (plain (λ _. u32)), (goes-gave-slice 𝓤 H A W 16 12 tt (plain (λ _. u32)), (goes-gave-slice 𝓤 H A W 16 13 tt (plain (λ _. u32)), (goes-gave-slice 𝓤 H A W 16 14 tt (plain (λ _. u32)), (goes-gave-slice 𝓤 H A W 16 15 tt (plain (λ _. u32)), tt)))))))))))))))) (the-fn.clauses 𝓤 H A at-mem run)
-    (WpFn 𝓤 H (𝓣 .C) (𝓣 .Λ) code.function) (WpFn-mono 𝓤 H (W .laws) 𝓣 code.function) (walks 𝓤 H A W at-mem run 𝓣 known-core known-count known-fill)
+    (WpFn 𝓤 H (𝓣 .C) (𝓣 .Λ) code.function) (WpFn-mono 𝓤 H (W .laws) 𝓣 code.function) (traces 𝓤 H A W at-mem run 𝓣 known-core known-count known-fill)
 
 pub load-spec : {M : Type 1} → stated.statement M
 unfolding code.routine tablesOf
@@ -362,6 +362,6 @@ load-spec 𝓤 H 𝓜 𝓖 𝓡 =
     entered 𝓤 H (tripleOf 𝓤 H (𝓖 .A) the-fn.signature (the-fn.spec 𝓤 H (𝓖 .A) (𝓜 .mem) (𝓡 .run)))
     (tables 𝓤 H 𝓜 𝓡 code.env .C) (tables 𝓤 H 𝓜 𝓡 code.env .Λ) #the-fn code.function (code.unfolded 𝓤 H 𝓜 𝓡)
     (meets 𝓤 H (𝓖 .A) (givenOf 𝓤 H 𝓜 𝓖) (𝓜 .mem) (𝓡 .run) (tablesOf 𝓤 H 𝓜 (tables 𝓤 H 𝓜 𝓡 code.env))
-    (cited 𝓤 H (Core 𝓤 H (𝓖 .A) (𝓜 .mem) (𝓡 .run)) 𝓜 𝓡 code.env #core core-def.routine code.calls-loader·Loaded·load (core-thm.met 𝓤 H 𝓜 𝓖 𝓡))
+    (cited 𝓤 H (Core 𝓤 H (𝓖 .A) (𝓜 .mem) (𝓡 .run)) 𝓜 𝓡 code.env #core core-def.routine code.calls-assembly·Loaded·assemble (core-thm.met 𝓤 H 𝓜 𝓖 𝓡))
     (cited 𝓤 H (Count 𝓤 H (𝓖 .A) (𝓜 .mem) (𝓡 .run)) 𝓜 𝓡 code.env #count count-def.routine code.calls-records·fill-count (count-thm.met 𝓤 H 𝓜 𝓖 𝓡))
     (cited 𝓤 H (Fill 𝓤 H (𝓖 .A) (𝓜 .mem) (𝓡 .run)) 𝓜 𝓡 code.env #fill fill-def.routine code.calls-records·fill (fill-thm.met 𝓤 H 𝓜 𝓖 𝓡)))

@@ -1,6 +1,6 @@
 -- `load_lists` meets its contract: its list of reach records is an array in a local, which is lent to `load` for a lifetime that is made
 -- for the call, and is the function's own again when that ends.
--- Written by tools/walks.py. Assumes nothing.
+-- Written by tools/hand_proofs.py. Assumes nothing.
 use mathlib.Core.Path.{_≡_, refl, _∙_}
 use mathlib.Core.List.{List, [], _∷_, map}
 use Prim.Native.Nat.{ℕ}
@@ -51,10 +51,10 @@ use denote.Enum.Laws as EL
 use Rattle.model.specs.Sheet.{reachCount}
 use Rattle.model.specs.Load.{loadAnswer, loadColumns, loadRecords}
 use Rattle.terms.specs.Says.{reachSays}
-use Rattle.loader.specs.Says.{loadSays}
-use Rattle.loader.specs.declared.Load.{Load}
-use Rattle.loader.proofs.Load as S
-use Rattle.loader.proofs.Load.Laws as S′
+use Rattle.assembly.specs.Says.{loadSays}
+use Rattle.assembly.specs.declared.Load.{Load}
+use Rattle.assembly.proofs.Load as S
+use Rattle.assembly.proofs.Load.Laws as S′
 use Rattle.terms.specs.declared.Reach.{Reach}
 use Rattle.terms.proofs.Reach as T
 use Rattle.terms.proofs.Reach.Laws as T′
@@ -178,7 +178,7 @@ module _ {M : Type 1} (𝓤 : URA M) (H : Heap 𝓤) (A : Atoms 𝓤) (W : Given
     abbrev fm : FmC 𝓤 H (W .laws) (𝓣 .C)
     fm = fmOf 𝓤 H (W .laws) 𝓣
 
-    walk : ent 𝓤 (onEntry 𝓤 H A the-fn.signature κs qs a at) (WpFn 𝓤 H (𝓣 .C) (𝓣 .Λ) code.function (sliceVal (y .ptr) (length (y .now)) ∷
+    trace : ent 𝓤 (onEntry 𝓤 H A the-fn.signature κs qs a at) (WpFn 𝓤 H (𝓣 .C) (𝓣 .Λ) code.function (sliceVal (y .ptr) (length (y .now)) ∷
         sliceVal ((z .0) .ptr) (length ((z .0) .now)) ∷ sliceVal ((z .1 .0) .ptr) (length ((z .1 .0) .now)) ∷ sliceVal ((z .1 .1 .0) .ptr) (length ((z .1 .1 .0) .now)) ∷
         sliceVal ((z .1 .1 .1 .0) .ptr) (length ((z .1 .1 .1 .0) .now)) ∷ sliceVal ((z .1 .1 .1 .1 .0) .ptr) (length ((z .1 .1 .1 .1 .0) .now)) ∷
         sliceVal ((z .1 .1 .1 .1 .1 .0) .ptr) (length ((z .1 .1 .1 .1 .1 .0) .now)) ∷ sliceVal ((z .1 .1 .1 .1 .1 .1 .0) .ptr) (length ((z .1 .1 .1 .1 .1 .1 .0) .now)) ∷
@@ -189,7 +189,7 @@ module _ {M : Type 1} (𝓤 : URA M) (H : Heap 𝓤) (A : Atoms 𝓤) (W : Given
         sliceVal ((z .1 .1 .1 .1 .1 .1 .1 .1 .1 .1 .1 .0) .ptr) (length ((z .1 .1 .1 .1 .1 .1 .1 .1 .1 .1 .1 .0) .now)) ∷
         sliceVal ((z .1 .1 .1 .1 .1 .1 .1 .1 .1 .1 .1 .1 .0) .ptr) (length ((z .1 .1 .1 .1 .1 .1 .1 .1 .1 .1 .1 .1 .0) .now)) ∷
         sliceVal ((z .1 .1 .1 .1 .1 .1 .1 .1 .1 .1 .1 .1 .1 .0) .ptr) (length ((z .1 .1 .1 .1 .1 .1 .1 .1 .1 .1 .1 .1 .1 .0) .now)) ∷ []) Post)
-    walk =
+    trace =
         qed W ((‵ (flft (κs .0) (qs .0)) ⊛ raw (toks 𝓤 A 14 (κs .1) (qs .1))) ∷ ‵ (fsep Sheet (owns (rows 14 (κs .1)) z (values 14 z))) ∷ []) ∵
         enter ! (𝓣 .C) (𝓣 .Λ) code.function (sliceVal (y .ptr) (length (y .now)) ∷ sliceVal ((z .0) .ptr) (length ((z .0) .now)) ∷
         sliceVal ((z .1 .0) .ptr) (length ((z .1 .0) .now)) ∷ sliceVal ((z .1 .1 .0) .ptr) (length ((z .1 .1 .0) .now)) ∷
@@ -316,18 +316,18 @@ module _ {M : Type 1} (𝓤 : URA M) (H : Heap 𝓤) (A : Atoms 𝓤) (W : Given
         keep ! (0 ∷ 3 ∷ 2 ∷ 1 ∷ []) $ by ! (exits r u (ws .1 .1) answers writes same))))))))))))))))))))))))))))))))))))))))))))))))))))))))))))
 
 module _ {M : Type 1} (𝓤 : URA M) (H : Heap 𝓤) (A : Atoms 𝓤) (W : Given 𝓤 H A) (at-mem : Memory → SProp 𝓤) (run : Routine → Fun 𝓤) where
-  walks : (𝓣 : Tables 𝓤 H) → Triple 𝓤 (𝓣 .C #loader) (Loader 𝓤 H A at-mem run) →
+  traces : (𝓣 : Tables 𝓤 H) → Triple 𝓤 (𝓣 .C #loader) (Loader 𝓤 H A at-mem run) →
       Walks 𝓤 H A the-fn.ended stayed (WpFn 𝓤 H (𝓣 .C) (𝓣 .Λ) code.function) (the-fn.clauses 𝓤 H A at-mem run)
-  walks 𝓣 known-loader =
+  traces 𝓣 known-loader =
       walked 𝓤 H A the-fn.ended stayed (the-fn.clauses 𝓤 H A at-mem run) (WpFn 𝓤 H (𝓣 .C) (𝓣 .Λ) code.function)
       (λ κs. (slice-vals, (slice-vals, (slice-vals, (slice-vals, (slice-vals, (slice-vals, (slice-vals, (slice-vals, (slice-vals, (slice-vals, (slice-vals, (slice-vals, (slice-vals, (slice-vals, (slice-vals, tt)))))))))))))))) (λ κs. (shr-slice-tells (named 0) (κs .0) u8, (mut-slice-tells (named 1) (κs .1 .0) u32, (mut-slice-tells (named 2) (κs .1 .1 .0) u32, (mut-slice-tells (named 3) (κs .1 .1 .1 .0) u32, (mut-slice-tells (named 4) (κs .1 .1 .1 .1 .0) u32, (mut-slice-tells (named 5) (κs .1 .1 .1 .1 .1 .0) u32, (mut-slice-tells (named 6) (κs .1 .1 .1 .1 .1 .1 .0) u32, (mut-slice-tells (named 7) (κs .1 .1 .1 .1 .1 .1 .1 .0) u32, (mut-slice-tells (named 8) (κs .1 .1 .1 .1 .1 .1 .1 .1 .0) u32, (mut-slice-tells (named 9) (κs .1 .1 .1 .1 .1 .1 .1 .1 .1 .0) u32, (mut-slice-tells (named 10) (κs .1 .1 .1 .1 .1 .1 .1 .1 .1 .1 .0) u32, (mut-slice-tells (named 11) (κs .1 .1 .1 .1 .1 .1 .1 .1 .1 .1 .1 .0) u32, (mut-slice-tells (named 12) (κs .1 .1 .1 .1 .1 .1 .1 .1 .1 .1 .1 .1 .0) u32, (mut-slice-tells (named 13) (κs .1 .1 .1 .1 .1 .1 .1 .1 .1 .1 .1 .1 .1 .0) u32, (mut-slice-tells (named 14) (κs .1 .1 .1 .1 .1 .1 .1 .1 .1 .1 .1 .1 .1 .1 .0) u32, tt))))))))))))))))
-      (λ κs qs bounds a g are. via 𝓤 _ (fst∗ 𝓤 _ (emp 𝓤)) (walk 𝓤 H A W at-mem run κs qs (a .0) (a .1) (are .0 .0 .1) (are .1 .0 .0 .1, (are .1 .1 .0 .0 .1, (are .1 .1 .1 .0 .0 .1, (are .1 .1 .1 .1 .0 .0 .1, (are .1 .1 .1 .1 .1 .0 .0 .1, (are .1 .1 .1 .1 .1 .1 .0 .0 .1, (are .1 .1 .1 .1 .1 .1 .1 .0 .0 .1, (are .1 .1 .1 .1 .1 .1 .1 .1 .0 .0 .1, (are .1 .1 .1 .1 .1 .1 .1 .1 .1 .0 .0 .1, (are .1 .1 .1 .1 .1 .1 .1 .1 .1 .1 .0 .0 .1, (are .1 .1 .1 .1 .1 .1 .1 .1 .1 .1 .1 .0 .0 .1, (are .1 .1 .1 .1 .1 .1 .1 .1 .1 .1 .1 .1 .0 .0 .1, (are .1 .1 .1 .1 .1 .1 .1 .1 .1 .1 .1 .1 .1 .0 .0 .1, (are .1 .1 .1 .1 .1 .1 .1 .1 .1 .1 .1 .1 .1 .1 .0 .0 .1, tt)))))))))))))) 𝓣 known-loader))
+      (λ κs qs bounds a g are. via 𝓤 _ (fst∗ 𝓤 _ (emp 𝓤)) (trace 𝓤 H A W at-mem run κs qs (a .0) (a .1) (are .0 .0 .1) (are .1 .0 .0 .1, (are .1 .1 .0 .0 .1, (are .1 .1 .1 .0 .0 .1, (are .1 .1 .1 .1 .0 .0 .1, (are .1 .1 .1 .1 .1 .0 .0 .1, (are .1 .1 .1 .1 .1 .1 .0 .0 .1, (are .1 .1 .1 .1 .1 .1 .1 .0 .0 .1, (are .1 .1 .1 .1 .1 .1 .1 .1 .0 .0 .1, (are .1 .1 .1 .1 .1 .1 .1 .1 .1 .0 .0 .1, (are .1 .1 .1 .1 .1 .1 .1 .1 .1 .1 .0 .0 .1, (are .1 .1 .1 .1 .1 .1 .1 .1 .1 .1 .1 .0 .0 .1, (are .1 .1 .1 .1 .1 .1 .1 .1 .1 .1 .1 .1 .0 .0 .1, (are .1 .1 .1 .1 .1 .1 .1 .1 .1 .1 .1 .1 .1 .0 .0 .1, (are .1 .1 .1 .1 .1 .1 .1 .1 .1 .1 .1 .1 .1 .1 .0 .0 .1, tt)))))))))))))) 𝓣 known-loader))
 
 meets : {M : Type 1} (𝓤 : URA M) (H : Heap 𝓤) (A : Atoms 𝓤) → Given 𝓤 H A → (at-mem : Memory → SProp 𝓤) (run : Routine → Fun 𝓤) (𝓣 : Tables 𝓤 H) →
     Triple 𝓤 (𝓣 .C #loader) (Loader 𝓤 H A at-mem run) → Meets 𝓤 H A the-fn.signature (WpFn 𝓤 H (𝓣 .C) (𝓣 .Λ) code.function) (the-fn.spec 𝓤 H A at-mem run)
 meets 𝓤 H A W at-mem run 𝓣 known-loader =
     walk-meets 𝓤 H A the-fn.ended stayed W (goes-none-slice 𝓤 H A W 15 (0 ∷ []) tt (plain (λ _. u8)) yes, (goes-gave-slice 𝓤 H A W 15 1 tt (plain (λ _. u32)), (goes-gave-slice 𝓤 H A W 15 2 tt (plain (λ _. u32)), (goes-gave-slice 𝓤 H A W 15 3 tt (plain (λ _. u32)), (goes-gave-slice 𝓤 H A W 15 4 tt (plain (λ _. u32)), (goes-gave-slice 𝓤 H A W 15 5 tt (plain (λ _. u32)), (goes-gave-slice 𝓤 H A W 15 6 tt (plain (λ _. u32)), (goes-gave-slice 𝓤 H A W 15 7 tt (plain (λ _. u32)), (goes-gave-slice 𝓤 H A W 15 8 tt (plain (λ _. u32)), (goes-gave-slice 𝓤 H A W 15 9 tt (plain (λ _. u32)), (goes-gave-slice 𝓤 H A W 15 10 tt (plain (λ _. u32)), (goes-gave-slice 𝓤 H A W 15 11 tt (plain (λ _. u32)), (goes-gave-slice 𝓤 H A W 15 12 tt (plain (λ _. u32)), (goes-gave-slice 𝓤 H A W 15 13 tt (plain (λ _. u32)), (goes-gave-slice 𝓤 H A W 15 14 tt (plain (λ _. u32)), tt))))))))))))))) (the-fn.clauses 𝓤 H A at-mem run)
-    (WpFn 𝓤 H (𝓣 .C) (𝓣 .Λ) code.function) (WpFn-mono 𝓤 H (W .laws) 𝓣 code.function) (walks 𝓤 H A W at-mem run 𝓣 known-loader)
+    (WpFn 𝓤 H (𝓣 .C) (𝓣 .Λ) code.function) (WpFn-mono 𝓤 H (W .laws) 𝓣 code.function) (traces 𝓤 H A W at-mem run 𝓣 known-loader)
 
 pub load-lists-spec : {M : Type 1} → stated.statement M
 unfolding code.routine tablesOf

@@ -1,6 +1,6 @@
 -- `sweep::upward` meets its contract. The loop's invariant, `Up`: the new figures of the segments from i on are written, and the uncut C' of
 -- segment i is in the local. The measure is i.
-use Rattle.sweep.specs.Step.{stateOf, workingOf}
+use Rattle.terms.specs.Lent.{plain, state, working}
 use Rattle.sweep.proofs.UpPass.{Up, up-start, raise-ready, stores-ready, up-turn, up-end}
 use borrow.Author.Needs.{needs}
 use Rattle.sweep.proofs.upward.Statement.{statement}
@@ -8,7 +8,7 @@ use Rattle.sweep.proofs.upward.Tie as tie
 
 abbrev Inv-loop : tie.InvT-loop
 Inv-loop n b ks h m cb p y channel₀ storage₀ sediment₀ below₀ i₀ channel storage sediment below i =
-    Up n b ks h m cb (stateOf channel₀ storage₀ sediment₀ 0 0) (workingOf p y) i below channel storage sediment
+    Up n b ks h m cb (state plain channel₀ storage₀ sediment₀ 0 0) (working plain p y) i below channel storage sediment
 
 abbrev μ-loop : tie.MeasureT-loop
 μ-loop n b ks h m cb p y channel₀ storage₀ sediment₀ below₀ i₀ channel storage sediment below i = i

@@ -1,6 +1,6 @@
 -- `yumbaqel_load` meets its contract: the loader answers, writes the fourteen lists and fills the reach records, and `put_load` hands the
 -- answer out. Every list and every reference is passed on.
--- Written by tools/walks.py. Assumes nothing.
+-- Written by tools/hand_proofs.py. Assumes nothing.
 use mathlib.Core.Path.{_≡_, refl, sym, ap, subst, _∙_}
 use mathlib.Core.List.{List, [], _∷_, map}
 use Prim.Native.Nat.{ℕ}
@@ -45,10 +45,10 @@ use denote.Enum.Laws as EL
 use Rattle.model.specs.Sheet.{reachCount}
 use Rattle.model.specs.Load.{loadAnswer, loadColumns, loadRecords}
 use Rattle.terms.specs.Says.{reachSays}
-use Rattle.loader.specs.Says.{loadSays}
-use Rattle.loader.specs.declared.Load.{Load}
-use Rattle.loader.proofs.Load as S
-use Rattle.loader.proofs.Load.Laws as S′
+use Rattle.assembly.specs.Says.{loadSays}
+use Rattle.assembly.specs.declared.Load.{Load}
+use Rattle.assembly.proofs.Load as S
+use Rattle.assembly.proofs.Load.Laws as S′
 use Rattle.terms.specs.declared.Reach.{Reach}
 use Rattle.terms.proofs.Reach as T
 use Rattle.terms.proofs.Reach.Laws as T′
@@ -174,7 +174,7 @@ module _ {M : Type 1} (𝓤 : URA M) (H : Heap 𝓤) (A : Atoms 𝓤) (W : Given
     abbrev fm : FmC 𝓤 H (W .laws) (𝓣 .C)
     fm = fmOf 𝓤 H (W .laws) 𝓣
 
-    walk : ent 𝓤 (onEntry 𝓤 H A the-fn.signature (κ0, (κ1, (κ2, (κ3, κs)))) (q0, (q1, (q2, (q3, qs)))) a at) (WpFn 𝓤 H (𝓣 .C) (𝓣 .Λ) code.function (vptr (o0 .ptr .0) (o0 .ptr .1) ∷
+    trace : ent 𝓤 (onEntry 𝓤 H A the-fn.signature (κ0, (κ1, (κ2, (κ3, κs)))) (q0, (q1, (q2, (q3, qs)))) a at) (WpFn 𝓤 H (𝓣 .C) (𝓣 .Λ) code.function (vptr (o0 .ptr .0) (o0 .ptr .1) ∷
         vptr (o1 .ptr .0) (o1 .ptr .1) ∷ vptr (o2 .ptr .0) (o2 .ptr .1) ∷ vptr (o3 .ptr .0) (o3 .ptr .1) ∷ sliceVal (y .ptr) (length (y .now)) ∷
         sliceVal (x .ptr) (length (x .now)) ∷ sliceVal ((z .0) .ptr) (length ((z .0) .now)) ∷ sliceVal ((z .1 .0) .ptr) (length ((z .1 .0) .now)) ∷
         sliceVal ((z .1 .1 .0) .ptr) (length ((z .1 .1 .0) .now)) ∷ sliceVal ((z .1 .1 .1 .0) .ptr) (length ((z .1 .1 .1 .0) .now)) ∷
@@ -187,7 +187,7 @@ module _ {M : Type 1} (𝓤 : URA M) (H : Heap 𝓤) (A : Atoms 𝓤) (W : Given
         sliceVal ((z .1 .1 .1 .1 .1 .1 .1 .1 .1 .1 .1 .0) .ptr) (length ((z .1 .1 .1 .1 .1 .1 .1 .1 .1 .1 .1 .0) .now)) ∷
         sliceVal ((z .1 .1 .1 .1 .1 .1 .1 .1 .1 .1 .1 .1 .0) .ptr) (length ((z .1 .1 .1 .1 .1 .1 .1 .1 .1 .1 .1 .1 .0) .now)) ∷
         sliceVal ((z .1 .1 .1 .1 .1 .1 .1 .1 .1 .1 .1 .1 .1 .0) .ptr) (length ((z .1 .1 .1 .1 .1 .1 .1 .1 .1 .1 .1 .1 .1 .0) .now)) ∷ []) Post)
-    walk =
+    trace =
         qed W ((‵ (flft κ0 q0) ⊛ (‵ (flft κ1 q1) ⊛ (‵ (flft κ2 q2) ⊛ (‵ (flft κ3 q3) ⊛ raw (toks 𝓤 A 16 κs qs))))) ∷
         ‵ (fsep (MutRef (named 0) κ0 u32 .own o0 (vptr (o0 .ptr .0) (o0 .ptr .1) ∷ [])) (fsep (MutRef (named 0) κ1 u32 .own o1 (vptr (o1 .ptr .0) (o1 .ptr .1) ∷
         [])) (fsep (MutRef (named 0) κ2 u32 .own o2 (vptr (o2 .ptr .0) (o2 .ptr .1) ∷ [])) (fsep (MutRef (named 0) κ3 (Array u32 7) .own o3 (vptr (o3 .ptr .0) (o3 .ptr .1) ∷
@@ -329,19 +329,19 @@ module _ {M : Type 1} (𝓤 : URA M) (H : Heap 𝓤) (A : Atoms 𝓤) (W : Given
         by ! (exits r (vs .1) (ws .1 .0) (ws .1 .1) answers writes fills tells hands long same)))))))))))))))))))))))))))))))))))))))))))))))))))))))))))))))))))))))))
 
 module _ {M : Type 1} (𝓤 : URA M) (H : Heap 𝓤) (A : Atoms 𝓤) (W : Given 𝓤 H A) (at-mem : Memory → SProp 𝓤) (run : Routine → Fun 𝓤) where
-  walks : (𝓣 : Tables 𝓤 H) → Triple 𝓤 (𝓣 .C #loader) (Loader 𝓤 H A at-mem run) → Triple 𝓤 (𝓣 .C #put) (Put 𝓤 H A at-mem run) →
+  traces : (𝓣 : Tables 𝓤 H) → Triple 𝓤 (𝓣 .C #loader) (Loader 𝓤 H A at-mem run) → Triple 𝓤 (𝓣 .C #put) (Put 𝓤 H A at-mem run) →
       Walks 𝓤 H A the-fn.ended stayed (WpFn 𝓤 H (𝓣 .C) (𝓣 .Λ) code.function) (the-fn.clauses 𝓤 H A at-mem run)
-  walks 𝓣 known-loader known-put =
+  traces 𝓣 known-loader known-put =
       walked 𝓤 H A the-fn.ended stayed (the-fn.clauses 𝓤 H A at-mem run) (WpFn 𝓤 H (𝓣 .C) (𝓣 .Λ) code.function)
       (λ κs. (ptr-vals, (ptr-vals, (ptr-vals, (ptr-vals, (slice-vals, (slice-vals, (slice-vals, (slice-vals, (slice-vals, (slice-vals, (slice-vals, (slice-vals, (slice-vals, (slice-vals, (slice-vals, (slice-vals, (slice-vals, (slice-vals, (slice-vals, (slice-vals, tt))))))))))))))))))))) (λ κs. (mut-tells (named 0) (κs .0) u32, (mut-tells (named 1) (κs .1 .0) u32, (mut-tells (named 2) (κs .1 .1 .0) u32, (mut-tells (named 3) (κs .1 .1 .1 .0) (Array u32 7), (shr-slice-tells (named 4) (κs .1 .1 .1 .1 .0) u8, (mut-slice-tells (named 5) (κs .1 .1 .1 .1 .1 .0) T.the-row, (mut-slice-tells (named 6) (κs .1 .1 .1 .1 .1 .1 .0) u32, (mut-slice-tells (named 7) (κs .1 .1 .1 .1 .1 .1 .1 .0) u32, (mut-slice-tells (named 8) (κs .1 .1 .1 .1 .1 .1 .1 .1 .0) u32, (mut-slice-tells (named 9) (κs .1 .1 .1 .1 .1 .1 .1 .1 .1 .0) u32, (mut-slice-tells (named 10) (κs .1 .1 .1 .1 .1 .1 .1 .1 .1 .1 .0) u32, (mut-slice-tells (named 11) (κs .1 .1 .1 .1 .1 .1 .1 .1 .1 .1 .1 .0) u32, (mut-slice-tells (named 12) (κs .1 .1 .1 .1 .1 .1 .1 .1 .1 .1 .1 .1 .0) u32, (mut-slice-tells (named 13) (κs .1 .1 .1 .1 .1 .1 .1 .1 .1 .1 .1 .1 .1 .0) u32, (mut-slice-tells (named 14) (κs .1 .1 .1 .1 .1 .1 .1 .1 .1 .1 .1 .1 .1 .1 .0) u32, (mut-slice-tells (named 15) (κs .1 .1 .1 .1 .1 .1 .1 .1 .1 .1 .1 .1 .1 .1 .1 .0) u32, (mut-slice-tells (named 16) (κs .1 .1 .1 .1 .1 .1 .1 .1 .1 .1 .1 .1 .1 .1 .1 .1 .0) u32, (mut-slice-tells (named 17) (κs .1 .1 .1 .1 .1 .1 .1 .1 .1 .1 .1 .1 .1 .1 .1 .1 .1 .0) u32, (mut-slice-tells (named 18) (κs .1 .1 .1 .1 .1 .1 .1 .1 .1 .1 .1 .1 .1 .1 .1 .1 .1 .1 .0) u32, (mut-slice-tells (named 19) (κs .1 .1 .1 .1 .1 .1 .1 .1 .1 .1 .1 .1 .1 .1 .1 .1 .1 .1 .1 .0) u32, tt)))))))))))))))))))))
-      (λ κs qs bounds a g are. via 𝓤 _ (fst∗ 𝓤 _ (emp 𝓤)) (walk 𝓤 H A W at-mem run (κs .0) (κs .1 .0) (κs .1 .1 .0) (κs .1 .1 .1 .0) (κs .1 .1 .1 .1) (qs .0) (qs .1 .0) (qs .1 .1 .0) (qs .1 .1 .1 .0) (qs .1 .1 .1 .1) (a .0) (a .1 .0) (a .1 .1 .0) (a .1 .1 .1 .0) (a .1 .1 .1 .1 .0) (a .1 .1 .1 .1 .1 .0) (a .1 .1 .1 .1 .1 .1) (are .1 .1 .1 .1 .0 .0 .1) (are .1 .1 .1 .1 .1 .0 .0 .1) (are .1 .1 .1 .1 .1 .1 .0 .0 .1, (are .1 .1 .1 .1 .1 .1 .1 .0 .0 .1, (are .1 .1 .1 .1 .1 .1 .1 .1 .0 .0 .1, (are .1 .1 .1 .1 .1 .1 .1 .1 .1 .0 .0 .1, (are .1 .1 .1 .1 .1 .1 .1 .1 .1 .1 .0 .0 .1, (are .1 .1 .1 .1 .1 .1 .1 .1 .1 .1 .1 .0 .0 .1, (are .1 .1 .1 .1 .1 .1 .1 .1 .1 .1 .1 .1 .0 .0 .1, (are .1 .1 .1 .1 .1 .1 .1 .1 .1 .1 .1 .1 .1 .0 .0 .1, (are .1 .1 .1 .1 .1 .1 .1 .1 .1 .1 .1 .1 .1 .1 .0 .0 .1, (are .1 .1 .1 .1 .1 .1 .1 .1 .1 .1 .1 .1 .1 .1 .1 .0 .0 .1, (are .1 .1 .1 .1 .1 .1 .1 .1 .1 .1 .1 .1 .1 .1 .1 .1 .0 .0 .1, (are .1 .1 .1 .1 .1 .1 .1 .1 .1 .1 .1 .1 .1 .1 .1 .1 .1 .0 .0 .1, (are .1 .1 .1 .1 .1 .1 .1 .1 .1 .1 .1 .1 .1 .1 .1 .1 .1 .1 .0 .0 .1, (are .1 .1 .1 .1 .1 .1 .1 .1 .1 .1 .1 .1 .1 .1 .1 .1 .1 .1 .1 .0 .0 .1, tt)))))))))))))) 𝓣 known-loader known-put))
+      (λ κs qs bounds a g are. via 𝓤 _ (fst∗ 𝓤 _ (emp 𝓤)) (trace 𝓤 H A W at-mem run (κs .0) (κs .1 .0) (κs .1 .1 .0) (κs .1 .1 .1 .0) (κs .1 .1 .1 .1) (qs .0) (qs .1 .0) (qs .1 .1 .0) (qs .1 .1 .1 .0) (qs .1 .1 .1 .1) (a .0) (a .1 .0) (a .1 .1 .0) (a .1 .1 .1 .0) (a .1 .1 .1 .1 .0) (a .1 .1 .1 .1 .1 .0) (a .1 .1 .1 .1 .1 .1) (are .1 .1 .1 .1 .0 .0 .1) (are .1 .1 .1 .1 .1 .0 .0 .1) (are .1 .1 .1 .1 .1 .1 .0 .0 .1, (are .1 .1 .1 .1 .1 .1 .1 .0 .0 .1, (are .1 .1 .1 .1 .1 .1 .1 .1 .0 .0 .1, (are .1 .1 .1 .1 .1 .1 .1 .1 .1 .0 .0 .1, (are .1 .1 .1 .1 .1 .1 .1 .1 .1 .1 .0 .0 .1, (are .1 .1 .1 .1 .1 .1 .1 .1 .1 .1 .1 .0 .0 .1, (are .1 .1 .1 .1 .1 .1 .1 .1 .1 .1 .1 .1 .0 .0 .1, (are .1 .1 .1 .1 .1 .1 .1 .1 .1 .1 .1 .1 .1 .0 .0 .1, (are .1 .1 .1 .1 .1 .1 .1 .1 .1 .1 .1 .1 .1 .1 .0 .0 .1, (are .1 .1 .1 .1 .1 .1 .1 .1 .1 .1 .1 .1 .1 .1 .1 .0 .0 .1, (are .1 .1 .1 .1 .1 .1 .1 .1 .1 .1 .1 .1 .1 .1 .1 .1 .0 .0 .1, (are .1 .1 .1 .1 .1 .1 .1 .1 .1 .1 .1 .1 .1 .1 .1 .1 .1 .0 .0 .1, (are .1 .1 .1 .1 .1 .1 .1 .1 .1 .1 .1 .1 .1 .1 .1 .1 .1 .1 .0 .0 .1, (are .1 .1 .1 .1 .1 .1 .1 .1 .1 .1 .1 .1 .1 .1 .1 .1 .1 .1 .1 .0 .0 .1, tt)))))))))))))) 𝓣 known-loader known-put))
 
 meets : {M : Type 1} (𝓤 : URA M) (H : Heap 𝓤) (A : Atoms 𝓤) → Given 𝓤 H A → (at-mem : Memory → SProp 𝓤) (run : Routine → Fun 𝓤) (𝓣 : Tables 𝓤 H) →
     Triple 𝓤 (𝓣 .C #loader) (Loader 𝓤 H A at-mem run) → Triple 𝓤 (𝓣 .C #put) (Put 𝓤 H A at-mem run) →
     Meets 𝓤 H A the-fn.signature (WpFn 𝓤 H (𝓣 .C) (𝓣 .Λ) code.function) (the-fn.spec 𝓤 H A at-mem run)
 meets 𝓤 H A W at-mem run 𝓣 known-loader known-put =
     walk-meets 𝓤 H A the-fn.ended stayed W (goes-gave-ref 𝓤 H A W 20 0 tt (plain (λ _. u32)), (goes-gave-ref 𝓤 H A W 20 1 tt (plain (λ _. u32)), (goes-gave-ref 𝓤 H A W 20 2 tt (plain (λ _. u32)), (goes-gave-ref 𝓤 H A W 20 3 tt (arrayOf (plain (λ _. u32)) 7), (goes-none-slice 𝓤 H A W 20 (4 ∷ []) tt (plain (λ _. u8)) yes, (goes-gave-slice 𝓤 H A W 20 5 tt (plain (λ _. T.the-row)), (goes-gave-slice 𝓤 H A W 20 6 tt (plain (λ _. u32)), (goes-gave-slice 𝓤 H A W 20 7 tt (plain (λ _. u32)), (goes-gave-slice 𝓤 H A W 20 8 tt (plain (λ _. u32)), (goes-gave-slice 𝓤 H A W 20 9 tt (plain (λ _. u32)), (goes-gave-slice 𝓤 H A W 20 10 tt (plain (λ _. u32)), (goes-gave-slice 𝓤 H A W 20 11 tt (plain (λ _. u32)), (goes-gave-slice 𝓤 H A W 20 12 tt (plain (λ _. u32)), (goes-gave-slice 𝓤 H A W 20 13 tt (plain (λ _. u32)), (goes-gave-slice 𝓤 H A W 20 14 tt (plain (λ _. u32)), (goes-gave-slice 𝓤 H A W 20 15 tt (plain (λ _. u32)), (goes-gave-slice 𝓤 H A W 20 16 tt (plain (λ _. u32)), (goes-gave-slice 𝓤 H A W 20 17 tt (plain (λ _. u32)), (goes-gave-slice 𝓤 H A W 20 18 tt (plain (λ _. u32)), (goes-gave-slice 𝓤 H A W 20 19 tt (plain (λ _. u32)), tt)))))))))))))))))))) (the-fn.clauses 𝓤 H A at-mem run)
-    (WpFn 𝓤 H (𝓣 .C) (𝓣 .Λ) code.function) (WpFn-mono 𝓤 H (W .laws) 𝓣 code.function) (walks 𝓤 H A W at-mem run 𝓣 known-loader known-put)
+    (WpFn 𝓤 H (𝓣 .C) (𝓣 .Λ) code.function) (WpFn-mono 𝓤 H (W .laws) 𝓣 code.function) (traces 𝓤 H A W at-mem run 𝓣 known-loader known-put)
 
 pub yumbaqel-load-spec : {M : Type 1} → stated.statement M
 unfolding code.routine tablesOf

@@ -7,16 +7,16 @@ use Rattle.otis.proofs.River.report.Statement.{statement}
 use Rattle.otis.proofs.River.report.Tie as tie
 
 sub-i : tie.Need-sub-i
-sub-i c = report-reads _ _ _ _ _ (c .before .before .before .outside .ensures) (sym (c .before .before .judge-state .ensures) ∙ ap findingSays (c .enum-told .given .1)) .from
+sub-i c = report-reads _ _ _ _ _ (c .before .before .before .outside .ensures) (sym (c .before .before .state-test .ensures) ∙ ap findingSays (c .enum-told .given .1)) .from
 
 at-requires : tie.Need-at-requires
-at-requires c κs = let r = report-reads _ _ _ _ _ (c .before .before .before .outside .ensures) (sym (c .before .before .judge-state .ensures) ∙ ap findingSays (c .enum-told .given .1)) in (r .kd, r .channel, r .storage, r .sediment)
+at-requires c κs = let r = report-reads _ _ _ _ _ (c .before .before .before .outside .ensures) (sym (c .before .before .state-test .ensures) ∙ ap findingSays (c .enum-told .given .1)) in (r .kd, r .channel, r .storage, r .sediment)
 
 returns : tie.Need-returns
-returns c = report-accepted _ _ _ _ _ (c .before .before .before .before .outside .ensures) (sym (c .before .before .before .judge-state .ensures) ∙ ap findingSays (c .before .enum-told .given .1)) _ (c .at .ensures)
+returns c = report-accepted _ _ _ _ _ (c .before .before .before .before .outside .ensures) (sym (c .before .before .before .state-test .ensures) ∙ ap findingSays (c .before .enum-told .given .1)) _ (c .at .ensures)
 
 returns-2 : tie.Need-returns-2
-returns-2 c = report-refused _ _ _ _ _ (c .before .before .before .before .outside .ensures) _ _ (sym (c .before .before .before .judge-state .ensures) ∙ ap findingSays (c .before .found .given .1))
+returns-2 c = report-refused _ _ _ _ _ (c .before .before .before .before .outside .ensures) _ _ (sym (c .before .before .before .state-test .ensures) ∙ ap findingSays (c .before .found .given .1))
 
 pub report-spec : {M : Type 1} → statement M
 report-spec =

@@ -10,7 +10,7 @@ use Rattle.otis.proofs.River.step.Tie as tie
 step-requires : tie.Need-step-requires
 step-requires c κs =
     let d = c .before .before .before .before .before .before .before in
-    step-ready _ _ _ _ _ _ _ (working-short _ _ _ _ _ (d .before .before .before .before .before .or-short2 .ensures) (d .before .before .before .before .before .before .or-short .ensures)) _ (d .before .judge-state .ensures) (sym (d .or-done .ensures) ∙ ap findingSays (c .before .before .before .before .before .enum-told .given .1))
+    step-ready _ _ _ _ _ _ _ (working-short _ _ _ _ _ (d .before .before .before .before .before .or-short2 .ensures) (d .before .before .before .before .before .before .or-short .ensures)) _ (d .before .state-test .ensures) (sym (d .or-done .ensures) ∙ ap findingSays (c .before .before .before .before .before .enum-told .given .1))
 
 add-done : tie.Need-add-done
 add-done c =
@@ -18,20 +18,20 @@ add-done c =
     let entry = d .before .before .before .before .before .before .before .before .before .before .before .before .before .before .before .before .before .before .before .before .before .before .before .before .before .before in
     omega (
       arith,
-      steps-left (findingSays (d .before .judge-state .result)) (entry .args .steps) (entry .args .self .steps) (sym (d .or-done .ensures) ∙ ap findingSays (c .before .before .before .before .before .before .before .before .before .before .before .before .before .before .before .before .before .enum-told .given .1)),
+      steps-left (findingSays (d .before .state-test .result)) (entry .args .steps) (entry .args .self .steps) (sym (d .or-done .ensures) ∙ ap findingSays (c .before .before .before .before .before .before .before .before .before .before .before .before .before .before .before .before .before .enum-told .given .1)),
       entry .fits .steps,
     )
 
 returns : tie.Need-returns
 returns c =
     let d = c .before .before .before .before .before .before .before .before .before .before .before .before .before .before .before .before .before .before .before in
-    step-accepted _ _ _ _ _ _ _ (working-short _ _ _ _ _ (d .before .before .before .before .before .or-short2 .ensures) (d .before .before .before .before .before .before .or-short .ensures)) _ (d .before .judge-state .ensures) (sym (d .or-done .ensures) ∙ ap findingSays (c .before .before .before .before .before .before .before .before .before .before .before .before .before .before .before .before .before .enum-told .given .1))
+    step-accepted _ _ _ _ _ _ _ (working-short _ _ _ _ _ (d .before .before .before .before .before .or-short2 .ensures) (d .before .before .before .before .before .before .or-short .ensures)) _ (d .before .state-test .ensures) (sym (d .or-done .ensures) ∙ ap findingSays (c .before .before .before .before .before .before .before .before .before .before .before .before .before .before .before .before .before .enum-told .given .1))
     _ _ _ _ _ (c .before .before .before .before .before .before .before .before .before .before .before .step .ensures _ _ _)
 
 returns-2 : tie.Need-returns-2
 returns-2 c =
     let d = c .before .before .before in
-    step-refused _ _ _ _ _ _ _ (working-short _ _ _ _ _ (d .before .before .before .before .before .or-short2 .ensures) (d .before .before .before .before .before .before .or-short .ensures)) _ (d .before .judge-state .ensures) _ _ (sym (d .or-done .ensures) ∙ ap findingSays (c .before .found .given .1))
+    step-refused _ _ _ _ _ _ _ (working-short _ _ _ _ _ (d .before .before .before .before .before .or-short2 .ensures) (d .before .before .before .before .before .before .or-short .ensures)) _ (d .before .state-test .ensures) _ _ (sym (d .or-done .ensures) ∙ ap findingSays (c .before .found .given .1))
 
 pub step-spec : {M : Type 1} → statement M
 step-spec =

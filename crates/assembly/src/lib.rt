@@ -1,0 +1,168 @@
+// A loading over plain lists: any bytes in, half-step numbers or a numbered refusal out. Of the list of reach records it is handed the length.
+ghost use mathlib.Core.Path.{_≡_};
+ghost use Rattle.model.specs.Refusals.{first};
+ghost use Rattle.model.specs.Load.{loaded, loadTests, loadAnswer, loadColumns};
+ghost use Rattle.terms.specs.Says.{findingSays};
+ghost use Rattle.terms.specs.Lent.{entry, exit, columns};
+ghost use Rattle.course.specs.Segments.{Read};
+ghost use Rattle.assembly.specs.Says.{loadedSays, loadSays};
+use columns::any_short;
+use columns::fill;
+use course::course_test;
+use sheet::fields::gauge_count;
+use sheet::fields::gauges_at;
+use sheet::fields::interval;
+use sheet::fields::reach_count;
+use sheet::fields::row_count;
+use sheet::fields::rows_at;
+use sheet::fields::segment_count;
+use sheet::fields::steps;
+use terms::Finding;
+use terms::Place;
+
+// "Its result also gives M, the print interval, the segment count, and where the rows and the gauges begin on the sheet and how many
+// there are."
+pub struct Loaded {
+    pub steps: u32,
+    pub interval: u32,
+    pub segments: u32,
+    pub rowsat: u32,
+    pub rows: u32,
+    pub gaugesat: u32,
+    pub gauges: u32,
+}
+
+pub enum Load {
+    Loaded(Loaded),
+    Refused(u32, Place),
+}
+
+// What tests 1 to 13 find; `records` is the length of the list of reach records.
+fn load_test(
+    sheet: &[u8],
+    records: usize,
+    e: &[u32],
+    g: &[u32],
+    l: &[u32],
+    a: &[u32],
+    b: &[u32],
+    k: &[u32],
+    ks: &[u32],
+    h: &[u32],
+    m: &[u32],
+    s: &[u32],
+    cl: &[u32],
+    cb: &[u32],
+    kd: &[u32],
+    start: &[u32],
+) -> Finding
+    ensures { λ r. ⌜ findingSays r ≡ first (loadTests (entry sheet) records (columns entry e g l a b k ks h m s cl cb kd start)) ⌝ }
+{
+    if let Finding::Fails(number, place) = sheet::sheet_test(sheet) {
+        return Finding::Fails(number, place);
+    }
+    let n = segment_count(sheet);
+    if let Finding::Fails(number, place) = course_test(sheet, n, 10) {
+        return Finding::Fails(number, place);
+    }
+    if let Finding::Fails(number, place) = course_test(sheet, n, 11) {
+        return Finding::Fails(number, place);
+    }
+    if let Finding::Fails(number, place) = course_test(sheet, n, 12) {
+        return Finding::Fails(number, place);
+    }
+    if any_short(n, e, g, l, a, b, k, ks, h, m, s, cl, cb, kd, start) {
+        return Finding::Fails(13, Place::Nothing);
+    }
+    if records < reach_count(sheet) as usize {
+        return Finding::Fails(13, Place::Nothing);
+    }
+    Finding::Passes
+}
+
+impl Loaded {
+    // What an accepted loading answers.
+    fn read(sheet: &[u8], n: usize) -> Loaded
+        requires { ⌜ Read (now sheet) n ⌝ }
+        ensures { λ r. ⌜ loadedSays r ≡ loaded (entry sheet) ⌝ }
+    {
+        Loaded {
+            steps: steps(sheet),
+            interval: interval(sheet),
+            segments: n as u32,
+            rowsat: rows_at(sheet) as u32,
+            rows: row_count(sheet),
+            gaugesat: gauges_at(sheet) as u32,
+            gauges: gauge_count(sheet),
+        }
+    }
+
+    // A loading: tests 1 to 13 on any bytes and any lists; where all pass, each list's first entries are written, otherwise nothing.
+    pub fn assemble(
+        sheet: &[u8],
+        records: usize,
+        e: &mut [u32],
+        g: &mut [u32],
+        l: &mut [u32],
+        a: &mut [u32],
+        b: &mut [u32],
+        k: &mut [u32],
+        ks: &mut [u32],
+        h: &mut [u32],
+        m: &mut [u32],
+        s: &mut [u32],
+        cl: &mut [u32],
+        cb: &mut [u32],
+        kd: &mut [u32],
+        start: &mut [u32],
+    ) -> Load
+        ensures answer { λ r. ⌜ loadSays r ≡ loadAnswer (entry sheet) records (columns entry e g l a b k ks h m s cl cb kd start) ⌝ }
+        ensures lists { λ r. ⌜ columns exit e g l a b k ks h m s cl cb kd start ≡ loadColumns (entry sheet) records
+            (columns entry e g l a b k ks h m s cl cb kd start) ⌝ }
+    {
+        let found = load_test(
+            sheet,
+            records,
+            &e[..],
+            &g[..],
+            &l[..],
+            &a[..],
+            &b[..],
+            &k[..],
+            &ks[..],
+            &h[..],
+            &m[..],
+            &s[..],
+            &cl[..],
+            &cb[..],
+            &kd[..],
+            &start[..],
+        );
+        match found {
+            Finding::Passes => {
+                let n = segment_count(sheet);
+                let values = Loaded::read(sheet, n);
+                fill(
+                    sheet,
+                    n,
+                    &mut e[..],
+                    &mut g[..],
+                    &mut l[..],
+                    &mut a[..],
+                    &mut b[..],
+                    &mut k[..],
+                    &mut ks[..],
+                    &mut h[..],
+                    &mut m[..],
+                    &mut s[..],
+                    &mut cl[..],
+                    &mut cb[..],
+                    &mut kd[..],
+                    &mut start[..],
+                );
+                Load::Loaded(values)
+            }
+            Finding::Fails(number, place) => Load::Refused(number, place),
+        }
+    }
+}

@@ -1,0 +1,17 @@
+-- `segments::or_short` meets its contract.
+use borrow.Author.Tests.{lt-ltb, le-ltb}
+use Rattle.calltests.proofs.segments.or_short.Statement.{statement}
+use Rattle.calltests.proofs.segments.or_short.Tie as tie
+
+returns : tie.Need-returns
+returns c = rw (lt-ltb _ _ (c .if1 .taken))
+
+returns-2 : tie.Need-returns-2
+returns-2 c = rw (le-ltb _ _ (c .if1 .left))
+
+pub or-short-spec : {M : Type 1} → statement M
+or-short-spec =
+    tie.close
+    (tie.spec
+    returns
+    returns-2)

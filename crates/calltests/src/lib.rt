@@ -1,0 +1,159 @@
+// Tests 13 and 14 of a start, a step and a report, on lists of any length and content.
+ghost use mathlib.Core.Path.{_≡_};
+ghost use Prim.Native.Nat.{_+_, _<_, min};
+ghost use Rattle.model.specs.Ranges.{mostSegments};
+ghost use Rattle.model.specs.Refusals.{segment, first};
+ghost use Rattle.model.specs.Calls.{startTests};
+ghost use Rattle.terms.specs.Says.{placeSays, findingSays};
+ghost use Rattle.terms.specs.Lent.{entry, columns, state};
+ghost use Rattle.calltests.specs.Tests.{stateTests};
+use crate::limits::held_fault;
+use crate::limits::or_high;
+use crate::segments::figures_at_fault;
+use crate::segments::river_fault;
+use crate::segments::segment_at_fault;
+use terms::Finding;
+use terms::Place;
+
+pub mod limits;
+pub mod segments;
+
+fn least(a: usize, b: usize) -> usize
+    ensures { λ r. ⌜ r ≡ min a b ⌝ }
+{
+    if a < b { a } else { b }
+}
+
+// The place of the segment at i: segments count from 1.
+fn place_of(i: usize) -> Place
+    requires { ⌜ i < mostSegments ⌝ }
+    ensures { λ r. ⌜ placeSays r ≡ segment (i + 1) ⌝ }
+{
+    Place::Segment(i as u32 + 1)
+}
+
+// "a start .. 13 then 14": U and the count that the state had are not looked at, and 0 stands for them here.
+pub fn start_test(
+    n: u32,
+    e: &[u32],
+    g: &[u32],
+    l: &[u32],
+    a: &[u32],
+    b: &[u32],
+    k: &[u32],
+    ks: &[u32],
+    h: &[u32],
+    m: &[u32],
+    s: &[u32],
+    cl: &[u32],
+    cb: &[u32],
+    kd: &[u32],
+    start: &[u32],
+    channel: &[u32],
+    storage: &[u32],
+    sediment: &[u32],
+    u: u32,
+) -> Finding
+    ensures { λ r. ⌜ findingSays r ≡ first (startTests n (columns entry e g l a b k ks h m s cl cb kd start)
+        (state entry channel storage sediment 0 0) u) ⌝ }
+{
+    if river_fault(
+        n,
+        e,
+        g,
+        l,
+        a,
+        b,
+        k,
+        ks,
+        h,
+        m,
+        s,
+        cl,
+        cb,
+        kd,
+        start,
+        channel,
+        storage,
+        sediment,
+    ) {
+        return Finding::Fails(13, Place::Nothing);
+    }
+    let count = n as usize;
+    let i = segment_at_fault(count, e, g, l, a, b, k, ks, h, m, s, cl, cb, kd, start);
+    if i < count {
+        return Finding::Fails(14, place_of(i));
+    }
+    if or_high(false, u) {
+        return Finding::Fails(14, Place::Nothing);
+    }
+    Finding::Passes
+}
+
+// Tests 13 and 14 of a step or a report, of which `unfit` says what 13 finds of the others that it is lent or handed.
+pub fn state_test(
+    n: u32,
+    e: &[u32],
+    g: &[u32],
+    l: &[u32],
+    a: &[u32],
+    b: &[u32],
+    k: &[u32],
+    ks: &[u32],
+    h: &[u32],
+    m: &[u32],
+    s: &[u32],
+    cl: &[u32],
+    cb: &[u32],
+    kd: &[u32],
+    start: &[u32],
+    channel: &[u32],
+    storage: &[u32],
+    sediment: &[u32],
+    unfit: bool,
+    upstream: u32,
+    done: u32,
+    u: u32,
+    steps: u32,
+) -> Finding
+    ensures { λ r. ⌜ findingSays r ≡ first (stateTests n (columns entry e g l a b k ks h m s cl cb kd start)
+        (state entry channel storage sediment upstream done) unfit u steps) ⌝ }
+{
+    if river_fault(
+        n,
+        e,
+        g,
+        l,
+        a,
+        b,
+        k,
+        ks,
+        h,
+        m,
+        s,
+        cl,
+        cb,
+        kd,
+        start,
+        channel,
+        storage,
+        sediment,
+    ) {
+        return Finding::Fails(13, Place::Nothing);
+    }
+    if unfit {
+        return Finding::Fails(13, Place::Nothing);
+    }
+    let count = n as usize;
+    let i = least(
+        segment_at_fault(count, e, g, l, a, b, k, ks, h, m, s, cl, cb, kd, start),
+        figures_at_fault(count, channel, storage, sediment),
+    );
+    if i < count {
+        return Finding::Fails(14, place_of(i));
+    }
+    if held_fault(upstream, done, u, steps) {
+        return Finding::Fails(14, Place::Nothing);
+    }
+    Finding::Passes
+}
