@@ -1,22 +1,25 @@
-"""Tests the tools: the text of a sheet, explanations, curves, and the examples.
+"""Tests the tools: the text of a sheet, explanations, curves, what is shown of a proof, and the examples.
 
     python3 tests/test_tools.py [PATH_TO_RIVER] [--full]
 
 Without a path target/bin/river is run where it is there; what needs the program is else left out, and said so.
---full also runs the program over the whole examples and compares with their stored listings.
+--full also runs the program over the whole examples and compares with their stored listings and pictures.
 The exit status is 0 only when every check holds.
 """
 from __future__ import annotations
 
 import argparse
+import io
 import os
+import pty
 import random
 import re
+import signal
 import subprocess
 import sys
 import tempfile
 import time
-from collections.abc import Iterator
+from collections.abc import Callable, Iterator
 from dataclasses import replace
 from fractions import Fraction
 from itertools import islice
@@ -33,14 +36,16 @@ from model import Header, Reach, Row
 from program import ProgramFault, first_difference, printed, program_path
 from sheets import BROOK_REACH, Draft, brook, plain, still_reaches, write
 
-import curves                       # the tools' folder is on the path since `model` was imported
+import command                      # the tools' folder is on the path since `model` was imported
+import curves
 import explain
+import prove
 import sheet_text
 import units
 
 ROOT = Path(__file__).resolve().parent.parent
 EXAMPLES = ROOT / "examples"
-SHEET, CURVES = ROOT / "tools" / "sheet.py", ROOT / "tools" / "curves.py"
+SHEET, CURVES, PROVE = (ROOT / "tools" / name for name in ("sheet.py", "curves.py", "prove.py"))
 RIVER = ROOT / "target" / "bin" / "river"
 MOST_SHOWN = 10
 SVG = "{http://www.w3.org/2000/svg}"
@@ -52,10 +57,23 @@ class Check(NamedTuple):
     wanted: Any
 
 
-def tool(*arguments: object, given: bytes = b"", encoding: str = "utf-8") -> subprocess.CompletedProcess:
+def tool(*arguments: object, given: bytes = b"", encoding: str = "utf-8", **options: Any
+         ) -> subprocess.CompletedProcess:
     """Runs one of the tools as a user does, at a terminal with this encoding."""
-    return subprocess.run([sys.executable, *map(str, arguments)], input=given, capture_output=True, timeout=60,
-                          env=os.environ | {"PYTHONIOENCODING": encoding})
+    options = dict(stdout=subprocess.PIPE, stderr=subprocess.PIPE, env=os.environ) | options
+    options["env"] = options["env"] | {"PYTHONIOENCODING": encoding, "PYTHONUNBUFFERED": ""}
+    return subprocess.run([sys.executable, *map(str, arguments)], input=given, timeout=60, **options)
+
+
+def closed_pipe(*arguments: object, **options: Any) -> tuple[int, bytes]:
+    """Runs a tool into a pipe that nobody reads: its exit status, and what it says of that."""
+    reading, writing = os.pipe()
+    os.close(reading)
+    try:
+        ran = tool(*arguments, stdout=writing, **options)
+    finally:
+        os.close(writing)
+    return ran.returncode, ran.stderr
 
 
 # Units
@@ -70,6 +88,10 @@ KNOWN_FIGURES = (
     (units.CONCENTRATION, "0.13", "g/m3", 130_000), (units.SEDIMENT, "40", "kg/m3", 40_000),
     (units.DISTRIBUTION, "70e-6", "m3/g", 70), (units.DISTRIBUTION, "70", "mL/g", 70),
     (units.DISTRIBUTION, "0.07", "m3/kg", 70), (units.DISTRIBUTION, "70", "L/kg", 70),
+    (units.LENGTH, "25", "ft", 762), (units.LENGTH, "12.5", "feet", 381), (units.LENGTH, "1.25", "mi", 201_168),
+    (units.AREA, "625", "ft²", 580_644), (units.DISPERSION, "625", "ft^2/s", 580_644),
+    (units.FLOW, "15625", "ft3/s", 442_450_728), (units.FLOW, "15625", "cfs", 442_450_728),
+    (units.LATERAL_FLOW, "1", "ft3/s/ft", 92_903_040), (units.LATERAL_FLOW, "5280", "ft3/s/mi", 92_903_040),
 )
 
 
@@ -83,6 +105,14 @@ def unit_checks() -> Iterator[Check]:
         for unit in kind.shown:
             text = units.in_unit(figure, kind, unit)
             yield Check(f"{figure} as {text} {unit}", units.number(text) * kind.factor(unit), Fraction(figure))
+    ranges = model.REACH_RANGES | model.header_ranges(model.MOST_STEPS)
+    for name, kind in (units.REACH_KINDS | units.HEADER_KINDS).items():
+        for unit, size in kind.units.items():
+            low, high = ranges[name]
+            least, most = re.findall(r"[\d.e-]+(?= )", units.span(low, high, units.Unit(unit, size)))
+            ends = units.number(least) * size - low, high - units.number(most) * size
+            yield Check(f"{name} in {unit}: inside its range, and near its ends",
+                        all(0 <= end <= Fraction(figure, 10 ** 8) for end, figure in zip(ends, (low, high))), True)
 
 
 # The text of a sheet
@@ -150,8 +180,48 @@ def command_checks() -> Iterator[Check]:
         yield Check("explain, refused", (said.returncode, said.stdout.split(b"\n")[0]), (1, b"refused 5"))
         cut = tool(SHEET, "read", "-", given=sheet.read_bytes()[:-1])
         yield Check("read, cut short", (cut.returncode, cut.stderr.split(b"\n")[0]), (1, b"refused 2"))
-        yield Check("not UTF-8", tool(SHEET, "make", "-", "-o", again, given=b"\xff").returncode, 1)
-        yield Check("no such file", tool(SHEET, "explain", Path(folder) / "none").returncode, 1)
+        mark = b"\xef\xbb\xbf"                              # a byte order mark
+        marked = tool(SHEET, "make", "-", "-o", "-", given=mark + text.read_bytes())
+        yield Check("make, a byte order mark", (marked.returncode, marked.stdout), (0, sheet.read_bytes()))
+        for given, at in ((b"step \xff", 5), (mark + b"step \xff", 8)):
+            ran = tool(SHEET, "make", "-", "-o", again, given=given)
+            yield Check("not UTF-8", (ran.returncode, ran.stderr),
+                        (1, f"-: not a text in UTF-8 (byte {at})\n".encode()))
+
+
+def file_checks() -> Iterator[Check]:
+    """What is missing or cannot be read or written ends in one line; a closed pipe in none."""
+    with tempfile.TemporaryDirectory() as name:
+        folder = Path(name)
+        sheet, text, listing, none = (folder / each for each in ("a.otr", "a.txt", "a.listing", "none"))
+        sheet.write_bytes(write(plain()))
+        text.write_text(sheet_text.read(sheet.read_bytes()), encoding="utf-8")
+        listing.write_bytes(model.listing(sheet.read_bytes()))
+        show = (CURVES, listing, "--sheet", sheet)
+        missing, directory = "No such file or directory", "Is a directory"
+        for path, words, *arguments in (
+                (none, missing, SHEET, "make", none, "-o", folder / "b.otr"), (none, missing, SHEET, "read", none),
+                (none, missing, SHEET, "explain", none), (none, missing, CURVES, none, "--dt", 2),
+                (none, missing, CURVES, listing, "--sheet", none), (folder, directory, SHEET, "explain", folder),
+                (folder, directory, CURVES, listing, "--sheet", folder),
+                (none / "b", missing, SHEET, "make", text, "-o", none / "b"),
+                (none / "b", missing, *show, "-o", none / "b")):
+            ran = tool(*arguments)
+            yield Check(f"{arguments}: in one line", (ran.returncode, ran.stdout, ran.stderr.decode()),
+                        (1, b"", f"{path}: {words}\n"))
+        ran = tool(CURVES, "--dt", 2, given=b"\xff")
+        yield Check("a listing that is not UTF-8", (ran.returncode, ran.stderr),
+                    (1, b"-: not a text in UTF-8 (byte 0)\n"))
+        marked = tool(CURVES, "--sheet", sheet, given=b"\xef\xbb\xbf" + listing.read_bytes())
+        yield Check("a listing with a byte order mark", (marked.returncode, marked.stdout),
+                    (0, tool(*show).stdout))
+        for arguments in ((SHEET, "make", text, "-o", "-"), (SHEET, "read", sheet), (SHEET, "explain", sheet),
+                          show):
+            yield Check(f"{arguments}: a closed pipe", closed_pipe(*arguments), (command.CLOSED_PIPE, b""))
+        with open("/dev/full", "wb") as full:
+            ran = tool(*show, stdout=full)
+        yield Check("a full disk", (ran.returncode, ran.stderr),
+                    (1, b"standard input or output: No space left on device\n"))
 
 
 def two_plain_reaches() -> Draft:
@@ -167,11 +237,17 @@ def mistake_checks() -> Iterator[Check]:
     yield Check("its sheet", good.sheet, write(two_plain_reaches()))
     yield Check("the report's names", sheet_text.make(texts.REPORT_NAMES).sheet, good.sheet)
     yield Check("lengths and times", sheet_text.make(texts.OTHER_WAYS).sheet, good.sheet)
+    feet = model.read_sheet(sheet_text.make(texts.FEET).sheet)
+    yield Check("feet and miles", (feet.header, feet.reaches[1][:7], feet.gauges),
+                (Header(10, 762, 6, 2, 19_822), (3, 5_110, 9_290, 1_858, 1_000_000, 2_991, 880), [1, 6]))
     for text, line, number, words in texts.MISTAKES:
         made = sheet_text.make(text)
         first = made.mistakes[0] if made.mistakes else sheet_text.Mistake(0, "no mistake")
         said = words if words in first.words else first.words
         yield Check(f"mistake: {words}", (first.line, first.number, said), (line, number, words))
+    late = sheet_text.make(texts.edited((19, "2 1e12 900")))
+    yield Check("a row's start has no range of its own", [mistake.words for mistake in late.mistakes],
+                ["from of boundary 2 is 1e12 s: a field holds at most 4,294,967,295 (about 42949672900 s)"])
     nearest = sheet_text.make(texts.NEAREST)
     yield Check("to the nearest", model.read_sheet(nearest.sheet).header.top_flow, 20_001)
     yield Check("said so", [(note.line, note.words) for note in nearest.rounded],
@@ -228,7 +304,7 @@ def told_of_sheets() -> Iterator[tuple[bytes, str, tuple[str, ...]]]:
             "0 to 1,000,000 g/m3"))
     yield write(still_reaches(1_024, 1)), "refused 7", ("1,025 segments together", "1,024")
     yield (write(replace(base, rows=[Row(0, 5), Row(0, 1_000_000_001)])), "refused 8, row 2",
-           ("not after row 1 (step 0)", "the concentration of boundary row 2 is 1,000,000,001 ng/L"))
+           ("not after row 1, at step 0", "the concentration of boundary row 2 is 1,000,000,001 ng/L"))
     yield (write(replace(base, gauges=[4, 10])), "refused 9, gauge 2",
            ("gauge 2 stands in segment 10", "segments 1 to 9"))
     yield (write(sheets.slope(45, 2)), "refused 10, segment 2",
@@ -239,6 +315,91 @@ def told_of_sheets() -> Iterator[tuple[bytes, str, tuple[str, ...]]]:
            ("T is 1.5 of one whole, 536,870,912 parts too many (e 1.5, g 0,", "a step of at most 2 s"))
     yield (sheet, "accepted", ("3 reaches, 9 segments of 10 m: 90 m", "6 steps of 10 s", "T is at most",
                                "gauges in segment 1 (10 m)"))
+
+
+LONGEST_DX = "the longest dx for which the whole river passes 11, all else unchanged: "
+LONGEST_DT = "the longest dt for which the whole river passes 12, all else unchanged: "
+WITH_THAT_DX = "the longest dt for which the whole river passes 12 with that dx: "
+
+
+def told_of_longest() -> Iterator[tuple[str, Draft, list[str]]]:
+    """Rivers, and what their explanation ends in; the brook passes 11 where Q x dx is at most 10,000."""
+    base = plain()
+    yield "accepted", brook(dt=2, Q=100), [f"{LONGEST_DX}100 cm (1 m)", f"{LONGEST_DT}3 s"]
+    yield "refused 12", brook(dt=4, Q=100), [f"{LONGEST_DX}100 cm (1 m)", f"{LONGEST_DT}3 s"]
+    yield ("refused 11", brook(dt=1, Q=100).with_header(dx=101),
+           [f"{LONGEST_DX}100 cm (1 m)", f"{LONGEST_DT}203 s", f"{WITH_THAT_DX}200 s"])
+    yield "refused 11", brook(dt=1, Q=1_001), [f"{LONGEST_DX}none from 10 to 10,000 cm", f"{LONGEST_DT}1 s"]
+    yield ("refused 10", sheets.slope(45, 2), [f"{LONGEST_DX}990 cm (9.9 m)",
+           f"{LONGEST_DT}not to be told while dx or a flow is out of range", f"{WITH_THAT_DX}980 s"])
+    yield "refused 12", brook(dt=1, Q=0, LAMBDA=10 ** 9, ALPHA=10 ** 9, LAMHAT=10 ** 9), [
+        f"{LONGEST_DX}10,000 cm (100 m)", f"{LONGEST_DT}none from 1 to 3,600 s"]
+    yield "accepted", brook(dt=2, Q=0, D=0), [f"{LONGEST_DX}10,000 cm (100 m)", f"{LONGEST_DT}3,600 s"]
+    yield "refused 5", brook(dt=7_200, Q=100), [f"{LONGEST_DX}100 cm (1 m)", f"{LONGEST_DT}3 s"]
+    yield ("refused 5", brook(dt=2, Q=100).with_header(dx=9), [f"{LONGEST_DX}100 cm (1 m)",
+           f"{LONGEST_DT}not to be told while dx or a flow is out of range", f"{WITH_THAT_DX}200 s"])
+    yield "refused 9", replace(brook(dt=2, Q=100), gauges=[2]), [f"{LONGEST_DX}100 cm (1 m)", f"{LONGEST_DT}3 s"]
+    for number, draft in ((5, base.with_header(top_flow=model.HIGHEST_FLOW + 1)), (6, base.with_reach(1, A=0)),
+                          (7, still_reaches(1_024, 1))):
+        yield f"refused {number}", draft, []            # no river to speak of
+
+
+def passes_11(draft: Draft, dx: int) -> bool:
+    """Document 01's tests 10 and 11 once more, from its words."""
+    own = [reach for reach in draft.reaches for _ in range(reach.segments)]
+    gain = 0
+    for at, reach in enumerate(own):
+        Q = draft.header.top_flow + gain * dx // 100_000
+        below = own[min(at + 1, len(own) - 1)]
+        if not 0 <= Q <= 100_000_000 or Q * dx > reach.A * reach.D + below.A * below.D:
+            return False
+        gain += reach.qin - reach.qout
+    return True
+
+
+def passes_12(found: model.Sheet, dt: int) -> bool:
+    try:
+        model.river_of(replace(found, header=found.header._replace(dt=dt)))
+    except model.Refusal:
+        return False
+    return True
+
+
+def passes_long_but_not_shorter() -> Draft:
+    """The outflow of segment 1 leaves nothing for segment 2 where segments are 10,000 cm long."""
+    upper = BROOK_REACH._replace(A=1_000, D=10_000, qout=10_000)
+    return Draft(Header(1, 10_000, 1, 1, 1_000), [upper, BROOK_REACH])
+
+
+def longest_checks() -> Iterator[Check]:
+    """The longest dx and dt are the longest of all that there are, tried one by one."""
+    for first, draft, wanted in told_of_longest():
+        lines = explain.words(write(draft)).split("\n")
+        told = [line.strip() for line in lines if line.startswith("  the longest ")]
+        yield Check(f"longest: {first}, {wanted}", (lines[0].split(",")[0], told), (first, wanted))
+    rng = random.Random("longest")
+    rivers = [passes_long_but_not_shorter(), passes_long_but_not_shorter().with_header(top_flow=999)]
+    for _ in range(12):
+        draft = sheets.good_river(rng, rng.randint(1, 5), 3)
+        changes = dict(qin=rng.choice((0, 10, 3_000, 10 ** 7)), qout=rng.choice((0, 20, 3_000, 10 ** 5)),
+                       D=rng.choice((0, 1, 900, 10 ** 6)))
+        rivers.append(draft.with_reach(rng.randrange(len(draft.reaches)), **changes))
+    longest = [explain.longest_segments(model.read_sheet(write(draft))) for draft in rivers]
+    for draft, dx in zip(rivers, longest):
+        wanted = next((each for each in range(10_000, 9, -1) if passes_11(draft, each)), 0)
+        yield Check("the longest dx", dx, wanted)
+    yield Check("none, the longest, and others", [0 in longest, 10_000 in longest, len(set(longest)) > 5],
+                [True] * 3)
+    yield Check("shorter segments need not pass", [passes_11(rivers[0], dx) for dx in (5_000, 10_000)],
+                [False, True])
+    for draft in (brook(dt=1, Q=700, D=40), brook(dt=1, Q=0, D=0, LAMHAT2=3_333_333, ALPHA=1_234_567)):
+        found = model.read_sheet(write(draft))
+        passing = [dt for dt in range(1, 3_601) if passes_12(found, dt)]
+        yield Check("the longest dt", (explain.longest_step(found), len(passing)), (max(passing), max(passing)))
+    biggest = Draft(Header(1, 10, 1, 1, 0), [BROOK_REACH._replace(segments=16, A=1_000, D=10_000, qin=100)] * 64)
+    begin = time.monotonic()
+    explain.words(write(biggest))
+    yield Check("1,024 segments: within two seconds", time.monotonic() - begin < 2, True)
 
 
 def explain_checks() -> Iterator[Check]:
@@ -295,6 +456,23 @@ step segment channel storage sediment
 40 8 2500000 8 73
 done 44
 """
+# The water of segment 3 is above 2.5 mg/L twice, the second time to the end; that of segment 8 never is.
+TWO_SPILLS = """\
+step segment channel storage sediment
+10 3 1000000 0 0
+10 8 1200000 0 0
+20 3 4000000 0 0
+20 8 1300000 0 0
+30 3 2500000 0 0
+30 8 1350000 0 0
+40 3 1000000 0 0
+40 8 1400000 0 0
+50 3 4200000 0 0
+50 8 1300000 0 0
+60 3 2500001 0 0
+60 8 1200000 0 0
+done 60
+"""
 BAD_LISTINGS = (
     ("refused 12\n", "the sheet was refused 12"), ("", "begins with the line"), ("step\n", "begins with the line"),
     (LISTING.replace("done 44\n", ""), "not complete"), (f"{model.HEADING}\ndone 3\n", "no line of figures"),
@@ -312,22 +490,60 @@ def cells(line: str) -> list[str]:
     return re.split(r"   +", line.strip())
 
 
-def svg_shape(text: str) -> tuple[int, int]:
-    """Curves and limit lines of a picture; parsing fails where it is not well formed."""
+def paragraphs(text: str) -> list[list[str]]:
+    """The stretches of lines between empty ones."""
+    return [part.split("\n") for part in re.split(r"\n\n+", text.strip("\n"))]
+
+
+def blocks(document: str) -> list[list[str]]:
+    """The indented paragraphs of a document."""
+    found = paragraphs((ROOT / document).read_text(encoding="utf-8"))
+    return [[line[4:] for line in lines] for lines in found if all(line.startswith("    ") for line in lines)]
+
+
+def svg_shape(text: str) -> tuple[int, int, int]:
+    """Curves, limit lines and bars of a picture; parsing fails where it is not well formed."""
     kinds = [part.get("class") for part in ElementTree.fromstring(text).iter()]
-    return kinds.count("curve"), kinds.count("limit")
+    return kinds.count("curve"), kinds.count("limit"), kinds.count("bar")
+
+
+def corners(part: ElementTree.Element) -> list[tuple[float, float]]:
+    """The points of a curve, or two corners of a bar."""
+    if part.tag == f"{SVG}path":
+        numbers = [float(number) for number in re.findall(r"[\d.]+", part.get("d"))]
+        return list(zip(numbers[::2], numbers[1::2]))
+    x, y, width, height = (float(part.get(name)) for name in ("x", "y", "width", "height"))
+    return [(x, y), (x + width, y + height)]
 
 
 def inside(text: str) -> bool:
-    """Every curve stays inside the picture."""
+    """Every curve, bar and line of text stays inside the picture."""
     root = ElementTree.fromstring(text)
     width, height = float(root.get("width")), float(root.get("height"))
-    for part in root.iter(f"{SVG}path"):
-        numbers = [float(number) for number in re.findall(r"[\d.]+", part.get("d"))]
-        if part.get("class") == "curve" and not (all(0 <= x <= width for x in numbers[::2])
-                                                 and all(0 <= y <= height for y in numbers[1::2])):
-            return False
-    return True
+    points = [point for part in root.iter() if part.get("class") in ("curve", "bar") for point in corners(part)]
+    points += [(0, float(part.get("y"))) for part in root.iter(f"{SVG}text")]
+    return all(0 <= x <= width and 0 <= y <= height for x, y in points)
+
+
+class Bars(NamedTuple):
+    """What a picture has of one gauge's spells: where each begins and ends, and what it says."""
+
+    ends: list[tuple[float, float]]
+    words: list[str]
+
+
+def bars_of(text: str) -> tuple[list[list[float]], list[Bars], list[str]]:
+    """The x of each curve's points, the bars in each curve's colour, and all texts."""
+    root = ElementTree.fromstring(text)
+    drawn = [part for part in root.iter() if part.get("class") == "curve"]
+    found = []
+    for curve in drawn:
+        own = [part for part in root.iter()
+               if part.get("class") == "bar" and part.get("fill") == curve.get("stroke")]
+        ends = [tuple(x for x, _ in corners(part)) for part in own]
+        found.append(Bars(ends, [part.findtext(f"{SVG}title") for part in own]))
+    across = [[x for x, _ in corners(curve)] for curve in drawn]
+    return across, found, [part.text for part in root.iter(f"{SVG}text")]
 
 
 def bad_listing(text: str) -> str:
@@ -343,12 +559,32 @@ def table_checks() -> Iterator[Check]:
     show = shown(LISTING, limit=2_500_000)
     yield Check("gauges", [gauge.segment for gauge in show.gauges], [3, 8])
     yield Check("table", [cells(line) for line in show.table("channel")],
-                [["gauge", "peak, channel", "first at", "above 2.5 mg/L from", "no more from"],
+                [["gauge", "peak, channel", "first at", "above 2.5 mg/L from", "until"],
                  ["segment 3", "4 mg/L", "20.00 min", "20.00 min", "30.00 min"],
                  ["segment 8", "3 mg/L", "30.00 min", "30.00 min", "40.00 min"]])
     never = shown(LISTING, limit=4_000_000, dt=3_600, clock=8.25)
     yield Check("a limit that is not passed", cells(never.table("channel")[1]),
-                ["segment 3", "4 mg/L", "28.25 h", "-", "-"])
+                ["segment 3", "4 mg/L", "28.25 h", "never above"])
+    two = shown(TWO_SPILLS, limit=2_500_000)
+    two.dx = 1_000
+    yield Check("two spills", two.table("channel")[1:],
+                [" 30 m        4.2 mg/L   50.00 min             20.00 min                30.00 min",
+                 " 30 m                                         50.00 min   still above at the end",
+                 " 80 m        1.4 mg/L   40.00 min           never above"])
+    yield Check("two spills, as docs/TOOLS.md shows them", two.table("channel") in blocks("docs/TOOLS.md"), True)
+    storage = shown(TWO_SPILLS, show=["storage"], limit=1).table("storage")
+    yield Check("the limit is for the channel", cells(storage[0]), ["gauge", "peak, storage", "first at"])
+    rng = random.Random("spells")
+    for _ in range(100):
+        steps = list(range(7, 7 * rng.randint(2, 20), 7))
+        gauge = curves.Gauge(1, steps, {"channel": [rng.choice((0, 5, 6)) for _ in steps]})
+        found = curves.spells(gauge, "channel", Fraction(11, 2))
+        ends = [each for spell in found for each in spell]
+        in_spells = [any(spell.begin <= step and (spell.until is None or step < spell.until) for spell in found)
+                     for step in steps]
+        figures = gauge.figures["channel"]
+        yield Check(f"spells of {figures}", in_spells, [figure == 6 for figure in figures])
+        yield Check(f"apart in {figures}", None in ends[:-1] or ends[:-1] != sorted(set(ends[:-1])), False)
     for name, figure, unit in (("channel", 999, "ng/L"), ("channel", 1_000, "µg/L"), ("sediment", 10 ** 6, "µg/g"),
                                ("storage", 0, "ng/L")):
         yield Check(f"unit of {figure}", curves.Scale.for_figures(name, figure).unit, unit)
@@ -357,25 +593,41 @@ def table_checks() -> Iterator[Check]:
                 (curves.PLOT_HEIGHT + 2, True, True))
     for text, words in BAD_LISTINGS:
         yield Check(f"bad listing: {words}", words in bad_listing(text), True)
-    for text, figure in (("10 mg/L", 10 ** 7), ("10mg/l", 10 ** 7), ("5", 5), ("1.5 ug/L", 1_500)):
+    for text, figure in (("10 mg/L", 10 ** 7), ("10mg/l", 10 ** 7), ("5 ng/L", 5), ("1.5 ug/L", 1_500),
+                         ("1.5 ng/L", Fraction(3, 2))):
         yield Check(f"limit {text}", curves.limit_figure(text), figure)
+    for text, words in (("9", "'9' has no unit: write one of ng/L, ug/L, mg/L, g/L, ug/m3, mg/m3, g/m3 after"),
+                        ("9 mg", "'mg' is not a unit of concentration: write one of ng/L, ug/L, mg/L,"),
+                        ("much", "'much' is not a concentration such as '10 mg/L'")):
+        ran = tool(CURVES, "--dt", 2, "--limit", text, given=LISTING.encode())
+        yield Check(f"limit {text}", (ran.returncode, words in ran.stderr.decode()), (2, True))
 
 
 def picture_checks() -> Iterator[Check]:
     """The SVG is well formed, with one curve for each gauge and panel, all inside."""
     for names in (["channel"], ["channel", "storage", "sediment"]):
         svg = shown(LISTING, show=names, limit=2_500_000, title="<a & 'b'>").svg()
-        yield Check(f"svg of {names}", (svg_shape(svg), inside(svg)), ((2 * len(names), 1), True))
+        yield Check(f"svg of {names}", (svg_shape(svg), inside(svg)), ((2 * len(names), 1, 2), True))
     many = "".join([f"{model.HEADING}\n", *(f"5 {gauge} {gauge} 0 0\n" for gauge in range(1, 33)), "done 5\n"])
-    yield Check("32 gauges, one step", svg_shape(shown(many).svg()), (32, 0))
+    yield Check("32 gauges, one step", svg_shape(shown(many).svg()), (32, 0, 0))
+    crowded = shown(many, limit=Fraction(31)).svg()
+    yield Check("32 gauges, one of them above", (svg_shape(crowded), inside(crowded)), ((32, 1, 1), True))
     clean = shown(f"{model.HEADING}\n1 1 0 0 0\n2 1 0 0 0\ndone 2\n").svg()
-    yield Check("clean water", (svg_shape(clean), inside(clean)), ((1, 0), True))
+    yield Check("clean water", (svg_shape(clean), inside(clean)), ((1, 0, 0), True))
+    svg = shown(TWO_SPILLS, limit=2_500_000).svg()
+    (x, _), bars, words = bars_of(svg)
+    ends = [[tuple(round(end, 1) for end in each) for each in own.ends] for own in bars]
+    yield Check("a bar for each spell", ends, [[(x[1], x[2]), (x[4], x[5])], []])
+    yield Check("what the bars say", bars[0].words, ["segment 3: above from 20.00 min, until 30.00 min",
+                                                     "segment 3: above from 50.00 min, still above at the end"])
+    legend = ("above 2.5 mg/L", "segment 3", "segment 8", "still above at the end", "never above")
+    yield Check("their legend", [words.count(each) for each in legend], [1, 2, 2, 1, 1])
     with tempfile.TemporaryDirectory() as folder:
         sheet, picture = Path(folder) / "a.otr", Path(folder) / "a.svg"
         sheet.write_bytes(write(replace(plain(), gauges=[3, 8])))
         ran = tool(CURVES, "--sheet", sheet, "-o", picture, "--limit", "1 mg/L",
                    given=model.listing(sheet.read_bytes()))
-        yield Check("curves.py", (ran.returncode, svg_shape(picture.read_text(encoding="utf-8"))), (0, (2, 1)))
+        yield Check("curves.py", (ran.returncode, svg_shape(picture.read_text(encoding="utf-8"))), (0, (2, 1, 0)))
         plainer = tool(CURVES, "--sheet", sheet, given=model.listing(sheet.read_bytes()), encoding="ascii")
         yield Check("curves.py, a plain terminal", (plainer.returncode, b"###" in plainer.stdout), (0, True))
         yield Check("gauges in metres", [b" 30 m" in ran.stdout, b" 80 m" in ran.stdout], [True, True])
@@ -386,8 +638,6 @@ def picture_checks() -> Iterator[Check]:
 
 
 # The examples
-
-PICTURES = {"uvas-chloride": ["channel", "storage"], "uvas-strontium": ["channel", "sediment"]}
 
 
 def stored(name: str) -> str:
@@ -423,10 +673,6 @@ def example_checks() -> Iterator[Check]:
         C, Z, sediment = float_river.farthest(short, model.listing(short).decode("ascii"))
         yield Check(f"{name}: near the float river", [C.distance < 6, Z.distance < 6, sediment.distance < 6 * 70],
                     [True] * 3)
-    for name, names in PICTURES.items():
-        drawn = shown(stored(name), sheet=EXAMPLES / f"{name}.otr", show=names, clock=8.25,
-                      title=name.replace("uvas-", "Uvas Creek, ")).svg()
-        yield Check(f"{name}: its picture", drawn == (EXAMPLES / f"{name}.svg").read_text(encoding="utf-8"), True)
     refusal = model.answer(write(uvas.strontium(dt=2)))
     yield Check("strontium with 2 s", (refusal.number, refusal.place), (12, ("segment", 106)))
     chloride = model.read_sheet(write(uvas.chloride()))
@@ -454,6 +700,207 @@ def program_checks(path: str, full: bool) -> Iterator[Check]:
         wanted = "".join([heading, *kept, f"done {steps}\n"]).encode("ascii")
         found = printed(path, shortened(draft, steps, interval))
         yield listing_check(f"{name}: its stored listing, {steps} steps", found, wanted)
+
+
+# The documents' commands
+
+PICTURE = re.compile(r"!\[[^]]*\]\(\.\./(examples/(.*)\.svg)\)\n\n    (.*)\n")
+
+
+def run_shown(line: str, example: str, folder: Path, program: bool) -> str:
+    """Runs a document's command; what it prints.  Without the program, the example's stored listing stands in."""
+    if not program:
+        line = line.replace(f"target/bin/river < examples/{example}.otr", f"cat examples/{example}.listing")
+    ran = subprocess.run(["bash", "-c", f"set -o pipefail; {line}"], cwd=folder, capture_output=True, timeout=120,
+                         env=os.environ | {"PYTHONIOENCODING": "utf-8"})
+    return (ran.stdout if ran.returncode == 0 else ran.stderr).decode()
+
+
+def document_checks(full: bool) -> Iterator[Check]:
+    """The commands of docs/UVAS.md draw its pictures; README.md shows what its own prints."""
+    found = PICTURE.findall((ROOT / "docs" / "UVAS.md").read_text(encoding="utf-8"))
+    yield Check("pictures with a command", [picture for picture, _, _ in found],
+                [f"examples/uvas-{name}.svg" for name in ("chloride", "strontium")])
+    text, shown_blocks = (ROOT / "README.md").read_text(encoding="utf-8"), blocks("README.md")
+    proving = "python3 tools/prove.py river && "
+    with tempfile.TemporaryDirectory() as name:
+        folder = Path(name)
+        for each in ("examples", "tools", "target"):
+            (folder / each).symlink_to(ROOT / each)         # a command names files from the repository's top
+        for picture, example, line in found:
+            run_shown(line, example, folder, RIVER.exists() and (full or example == "uvas-chloride"))
+            drawn = folder / line.split()[-1]
+            yield Check(f"{picture}: drawn by its command",
+                        drawn.exists() and drawn.read_bytes() == (ROOT / picture).read_bytes(), True)
+        line = next(block[0] for block in shown_blocks if block[0].startswith(proving)).removeprefix(proving)
+        table, *plots, _ = paragraphs(run_shown(line, "uvas-chloride", folder, False))
+    plot = next(plot for plot in plots if plot[0].startswith("433 m"))
+    limit = re.search(r'--limit "([^"]*)"', text)[1]
+    limited = shown(stored("uvas-chloride"), sheet=EXAMPLES / "uvas-chloride.otr", clock=8.25,
+                    limit=curves.limit_figure(limit)).table("channel")
+    yield Check("README: what it shows", [each in shown_blocks for each in (table, plot, limited)], [True] * 3)
+    yield Check("README: every spell, in these words", 'every spell above the limit at every gauge: from, until, '
+                'or "still above at the end"' in text, True)
+
+
+# Proofs
+
+CRATES = """\
+# one line for each crate
+a:
+b: a io libc   # two of them are the kit's
+c: b
+d: a c
+"""
+SLOWLY = ": > target/log/a.out\nsleep 1.2\n"
+PROVED = """\
+echo 'fn a::f: proved'
+echo 'rt: a proved (1 s)'
+: > target/log/b.out
+echo 'rt: b is up to date'
+echo 'rt: c proved (2 s)' | tee target/log/c.out
+echo 'rt: c ran, and wrote what it should (0 s)'
+echo 'rt: ok, 3 crates proved'
+"""
+FAILED = "\n".join(["echo 'rt: a proved (1 s)'", *(f"echo 'line {at} of b'" for at in range(1, 31)),
+                    "echo 'rt: b NOT PROVED (exit 1, 2 s)'", "echo 'fn c::f: proved'", "echo 'rt: c proved (2 s)'",
+                    "echo 'rt: FAILED: b'", "echo 'the last word' >&2", "exit 3", ""])
+ENDLESS = "sleep 60 &\necho $! > sleeping\nsleep 0.2\necho 'rt: a proved (1 s)'\nwait\n"
+
+
+class Workshop:
+    """A folder with a list of crates, and an `rt` that does what it is told."""
+
+    def __init__(self, folder: Path) -> None:
+        self.folder = folder
+        (folder / "bin").mkdir()
+        (folder / "target" / "log").mkdir(parents=True)
+        (folder / "crates.txt").write_text(CRATES)
+        self.options = dict(cwd=folder, env=os.environ | {"PATH": f"{folder / 'bin'}:{os.environ['PATH']}"})
+
+    def rt(self, script: str) -> None:
+        (self.folder / "bin" / "rt").write_text(f'#!/bin/sh\necho "$@" > asked\n{script}')
+        (self.folder / "bin" / "rt").chmod(0o755)
+
+    def prove(self, *names: str) -> tuple[int, list[str]]:
+        """The exit status, and the lines shown without the seconds so far, which vary."""
+        ran = tool(PROVE, *names, **self.options)
+        text = (ran.stdout + ran.stderr).decode()
+        return ran.returncode, re.sub(r"\d+ s(?= so far)|(?<=after )\d+ s", "T", text).splitlines()
+
+    def at_a_terminal(self, *names: str) -> str:
+        """What a terminal gets to show."""
+        ours, theirs = pty.openpty()
+        child = subprocess.Popen([sys.executable, PROVE, *names], stdout=theirs, stdin=subprocess.DEVNULL,
+                                 **self.options | {"env": self.options["env"] | {"TERM": "xterm"}})
+        os.close(theirs)
+        shown_there = b""
+        try:
+            while piece := os.read(ours, 4096):
+                shown_there += piece
+        except OSError:                                 # the end of a terminal
+            pass
+        os.close(ours)
+        child.wait(timeout=60)
+        return shown_there.decode()
+
+    def stopped(self, how: Callable[[subprocess.Popen], object]) -> tuple[int, bool]:
+        """The exit status of a proof that is stopped, and whether what rt had started goes on."""
+        with subprocess.Popen([sys.executable, PROVE, "c"], stdout=subprocess.PIPE, **self.options) as child:
+            child.stdout.readline()
+            until(lambda: (self.folder / "sleeping").exists() and (self.folder / "sleeping").read_text())
+            sleeper = int((self.folder / "sleeping").read_text())
+            (self.folder / "sleeping").unlink()
+            how(child)
+            status = child.wait(timeout=10)
+        return status, not until(lambda: ended(sleeper))
+
+
+def ended(process: int) -> bool:
+    """The process is no more, or waits for its parent to take note of that (Z)."""
+    try:
+        return Path(f"/proc/{process}/stat").read_text().rsplit(")", 1)[1].split()[0] == "Z"
+    except FileNotFoundError:
+        return True
+
+
+def until(holds: Callable[[], object]) -> bool:
+    """Waits until something holds, some seconds at most; whether it does."""
+    for _ in range(200):
+        if holds():
+            return True
+        time.sleep(0.02)
+    return False
+
+
+HEAD = "3 crates, each proved if it has changed since it last was; target/prove.log has all that rt prints"
+
+
+def proof_checks() -> Iterator[Check]:
+    """What prove.py shows of an rt that is none."""
+    with tempfile.TemporaryDirectory() as name:
+        work = Workshop(Path(name))
+        work.rt(PROVED)
+        yield Check("proved", work.prove("c"), (0, [
+            HEAD, "1 of 3  a proved (1 s), T so far", "2 of 3  b is up to date, T so far",
+            "3 of 3  c proved (2 s), T so far", "rt: c ran, and wrote what it should (0 s)",
+            "rt: ok, 3 crates proved", "all proved, after T"]))
+        yield Check("what rt was asked", (work.folder / "asked").read_text(), "check c\n")
+        yield Check("the log", (work.folder / "target" / "prove.log").read_text().splitlines(), [
+            "fn a::f: proved", "rt: a proved (1 s)", "rt: b is up to date", "rt: c proved (2 s)",
+            "rt: c ran, and wrote what it should (0 s)", "rt: ok, 3 crates proved"])
+        work.rt(SLOWLY + PROVED)
+        lines = work.at_a_terminal().replace("\r\n", "\n").split(prove.RENEW)
+        yield Check("a terminal: where it stands", lines[2], "1 s: 0 of 4 crates done, at a")
+        stay = [line.split(",")[0] for line in lines if line.endswith("\n")]
+        yield Check("a terminal: lines that stay", stay[:2], ["4 crates", "1 of 4  a proved (1 s)"])
+        yield Check("all crates", (work.folder / "asked").read_text(), "check\n")
+        work.rt(FAILED)
+        yield Check("not proved", work.prove("c"), (3, [
+            HEAD, "1 of 3  a proved (1 s), T so far", "2 of 3  b NOT PROVED (exit 1, 2 s), T so far",
+            "3 of 3  c proved (2 s), T so far", "rt: FAILED: b",
+            "not proved, after T; the end of what rt printed of it:",
+            *(f"  line {at} of b" for at in range(11, 31)), "  the last word"]))
+        work.rt("kill -9 $$\n")
+        yield Check("rt is killed", work.prove("c")[0], 137)
+        work.rt(ENDLESS)
+        for how, status in ((lambda child: child.stdout.close(), command.CLOSED_PIPE),
+                            (lambda child: child.send_signal(signal.SIGINT), command.INTERRUPTED),
+                            (lambda child: child.terminate(), 143)):
+            yield Check(f"stopped with {status}", work.stopped(how), (status, False))
+        yield Check("a closed pipe", closed_pipe(PROVE, "c", **work.options), (command.CLOSED_PIPE, b""))
+        yield Check("no such crate", work.prove("cc"), (2, ["crates.txt has no crate 'cc'; did you mean 'c'?"]))
+        ran = tool(PROVE, cwd=name, env={"PATH": str(work.folder / "target")})
+        yield Check("no rt", (ran.returncode, ran.stderr), (127, b"rt, the Rattle toolchain, is not installed: "
+                                                            b"README.md says which version is needed\n"))
+        (work.folder / "crates.txt").unlink()
+        yield Check("no crates.txt", work.prove("c"), (1, [f"no crates.txt in {work.folder} or above it"]))
+    yield from silence_checks()
+
+
+def silence_checks() -> Iterator[Check]:
+    """Not at a terminal, a silent rt leaves no half minute without a line."""
+    with tempfile.TemporaryDirectory() as name:
+        logs, out, now = Path(name), io.StringIO(), [0.0]
+        (logs / "b.out").write_text("rt: b proved (7 s)\n")         # of an earlier run
+        progress = prove.Progress({"a", "b", "c"}, logs, out, False, lambda: now[0])
+        (logs / "a.out").write_text("")
+        (logs / "c.out").write_text("rt: c proved (1 s)\n")         # done, and held back
+        seen = [0.0]
+        for second in range(1, 101):
+            now[0] = float(second)
+            before = out.tell()
+            progress.stand()
+            if out.tell() > before:
+                seen.append(now[0])
+        gaps = [after - before for before, after in zip(seen, [*seen[1:], 101])]
+        yield Check("a line at least every 30 seconds", max(gaps) <= 30, True)
+        yield Check("and not all the time", len(seen) < 10, True)
+        yield Check("where it stands", out.getvalue().splitlines()[3:4], ["1 min 20 s: 0 of 3 crates done, at a"])
+    crates = prove.read_crates((ROOT / "crates.txt").read_text())
+    rivers = prove.rested_on(crates, ["river"])
+    yield Check("river's crates", {"river", "model", "lists"} <= rivers < set(crates), True)
+    yield Check("no library of the kit", {"io", "libc"} & prove.rested_on(crates, list(crates)), set())
 
 
 # The run
@@ -484,9 +931,10 @@ def run_group(title: str, checks: Iterator[Check]) -> tuple[int, int]:
 def main() -> int:
     asked = arguments()
     groups = [("units", unit_checks()), ("round trips", round_trip_checks()), ("commands", command_checks()),
-              ("mistakes", mistake_checks()), ("any text", any_text_checks()), ("explanations", explain_checks()),
-              ("remedies", remedy_checks()), ("tables", table_checks()), ("pictures", picture_checks()),
-              ("examples", example_checks())]
+              ("files", file_checks()), ("mistakes", mistake_checks()), ("any text", any_text_checks()),
+              ("explanations", explain_checks()), ("remedies", remedy_checks()), ("longest", longest_checks()),
+              ("tables", table_checks()), ("pictures", picture_checks()), ("examples", example_checks()),
+              ("documents", document_checks(asked.full)), ("proofs", proof_checks())]
     try:
         if asked.river or RIVER.exists():
             path = program_path(asked.river or str(RIVER))

@@ -46,11 +46,15 @@ def numbered(count: int, row: str) -> str:
 
 REPORT_NAMES = edited((6, "reach NSEG DISP AREA AREA2 ALPHA"), (10, "reach QLATIN QLATOUT CLATIN start"),
                       (20, "gauge PRTLOC"))
-OTHER_WAYS = edited((3, "duration 1 min"), (4, "print every 2 steps"), (6, "reach length D A AS ALPHA"),
-                    (7, "unit m m2/s m2 m2 1/s"), (8, "1 30 0.5 1 0.2 1e-3"), (9, "2 30 0.5 1 0.2 1e-3"))
 NEAREST = edited((5, "flow at top ~20.0005 L/s"), (12, "all ~0.5 1000 0.5 1"))
 ROWS_BY_STEP = ((16, "boundary step concentration"), (17, "unit - ug/L"))
 GAUGES_BY_SEGMENT = ((20, "gauge segment"), (21, "unit -"))
+BY_LENGTH = ((6, "reach length D A AS ALPHA"), (7, "unit m m2/s m2 m2 1/s"), (8, "1 30 0.5 1 0.2 1e-3"))
+OTHER_WAYS = edited((3, "duration 1 min"), (4, "print every 2 steps"), *BY_LENGTH, (9, "2 30 0.5 1 0.2 1e-3"))
+FEET = edited((2, "segment length 25 ft"), (5, "flow at top ~0.7 ft3/s"), (6, "reach length D A AS ALPHA"),
+              (7, "unit ft ft2/s ft2 ft2 1/s"), (8, "1 75 ~5.5 ~10 ~2 1e-3"), (9, "2 75 ~5.5 ~10 ~2 1e-3"),
+              (11, "unit ft3/s/mi ft3/s/mi ug/L ug/L"), (12, "all ~0.17 ~0.05 0.5 1"), (21, "unit ft"),
+              (22, "1 25"), (23, "2 150"))
 
 
 class Mistaken(NamedTuple):
@@ -86,13 +90,21 @@ MISTAKES = (
     mistaken(5, 0, "'twenty' is not a number", (5, "flow at top twenty L/s")),
     mistaken(5, 0, "is not a number", (5, "flow at top 1e400 L/s")),
     mistaken(5, 0, "that is 20000.5 mL/s: not a whole number. Write ~20.0005 L/s", (5, "flow at top 20.0005 L/s")),
-    mistaken(5, 0, "a field holds at most 4,294,967,295 mL/s; document 01 allows 0 to 100,000,000 mL/s",
-             (5, "flow at top 5000 m3/s")),
+    mistaken(5, 0, "a field holds at most 4,294,967,295 mL/s (about 4294.96729 m3/s); "
+             "document 01 allows 0 to 100,000,000 mL/s (0 to 100 m3/s)", (5, "flow at top 5000 m3/s")),
     mistaken(3, 0, "that is 5.5 steps of 10 s: not a whole number", (3, "duration 55 s")),
     mistaken(4, 0, "that is 0.7 steps of 10 s", (4, "print every 7 s")),
     mistaken(4, 0, "print every is 20 s, counted in steps of 0 s", (1, "step 0 s")),
-    mistaken(9, 0, "D of reach 2 is 0.50001 m2/s, that is 5000.1 cm2/s", (9, "2 3 0.50001 1 0.2 1e-3")),
-    mistaken(12, 0, "qin of every reach is 0.5 mL/s/km, that is 0.5 mL/s/km: not a whole", (12, "all 0.5 0 0 0")),
+    mistaken(9, 0, "D of reach 2 is 0.50001 m2/s, that is 5000.1 cm2/s: not a whole number. "
+             "Write ~0.50001 m2/s to take the nearest, 5,000 cm2/s (0.5 m2/s)", (9, "2 3 0.50001 1 0.2 1e-3")),
+    mistaken(12, 0, "qin of every reach is 0.5 mL/s/km, that is 0.5 mL/s/km: not a whole number. "
+             "Write ~0.5 mL/s/km to take the nearest, 1 mL/s/km", (12, "all 0.5 0 0 0")),
+    mistaken(2, 0, "segment length is 33 ft, that is 1005.84 cm (1 ft is 30.48 cm): not a whole number. "
+             "Write ~33 ft to take the nearest, 1,006 cm (about 33.0052493 ft)", (2, "segment length 33 ft")),
+    mistaken(9, 0, "that is about 4.62962963 1e-9/s: not a whole number", (7, "unit - m2/s m2 m2 1/d"),
+             (8, "1 3 0.5 1 0.2 86.4"), (9, "2 3 0.5 1 0.2 4e-4")),
+    mistaken(22, 0, "distance of gauge 1 is 100 ft, that is 3.048 segments of 10 m: not a whole number. "
+             "Write ~100 ft to take the nearest, 3 (about 98.4251969 ft)", (21, "unit ft"), (22, "1 100")),
     mistaken(22, 0, "that is 1.2 segments of 10 m", (22, "1 12")),
     mistaken(19, 0, "from of boundary 2 is 25 s, that is 2.5 steps of 10 s", (19, "2 25 900")),
     mistaken(18, 0, "a field holds at most 4,294,967,295 ng/L", (17, "unit s g/L")),
@@ -124,27 +136,55 @@ MISTAKES = (
     mistaken(54, 3, "the count of gauges is 33; document 01 allows 1 to 32 gauges",
              *GAUGES_BY_SEGMENT, (22, numbered(33, "#")), (23, "")),
     mistaken(1, 5, "the step dt is 7,200 s; document 01 allows 1 to 3,600 s (refused 5)",
+             (1, "step 7200 s"), (4, "print every 1"), *ROWS_BY_STEP, (19, "2 2 900")),
+    mistaken(1, 5, "the step dt is 7,200 s (2 h); document 01 allows 1 to 3,600 s (about 0.000277777778 to 1 h)",
              (1, "step 2 h"), (4, "print every 1"), *ROWS_BY_STEP, (19, "2 2 900")),
-    mistaken(2, 5, "the segment length dx is 10,100 cm; document 01 allows 10 to 10,000 cm",
+    mistaken(2, 5, "the segment length dx is 10,100 cm (101 m); document 01 allows 10 to 10,000 cm (0.1 to 100 m)",
              (2, "segment length 101 m"), *GAUGES_BY_SEGMENT, (22, "1 1"), (23, "2 6")),
-    mistaken(3, 5, "the count of steps M is 100,001; document 01 allows 1 to 100,000", (3, "steps 100001")),
-    mistaken(4, 5, "the print interval is 7; document 01 allows 1 to 6 (M)", (4, "print every 7")),
-    mistaken(5, 5, "document 01 allows 0 to 100,000,000 mL/s", (5, "flow at top 101 m3/s")),
-    mistaken(9, 6, "channel area A of reach 2 is 1,010,000 cm2; document 01 allows 1 to 1,000,000 cm2",
-             (9, "2 3 0.5 101 0.2 1e-3")),
-    mistaken(15, 6, "Kd of reach 1 is 1,001 mL/g; document 01 allows 0 to 1,000 mL/g",
+    mistaken(2, 5, "the segment length dx is 10,668 cm (350 ft); "
+             "document 01 allows 10 to 10,000 cm (about 0.32808399 to 328.083989 ft)",
+             (2, "segment length 350 ft"), *GAUGES_BY_SEGMENT, (22, "1 1"), (23, "2 6")),
+    mistaken(3, 5, "the count of steps M is 100,001; document 01 allows 1 to 100,000 (refused 5)",
+             (3, "steps 100001")),
+    mistaken(3, 5, "the count of steps M is 108,000 (300 h); "
+             "document 01 allows 1 to 100,000 (about 0.00277777778 to 277.777777 h)", (3, "duration 300 h")),
+    mistaken(4, 5, "the print interval is 7; document 01 allows 1 to 6; M is 6", (4, "print every 7")),
+    mistaken(4, 5, "the print interval is 7 (70 s); document 01 allows 1 to 6 (10 to 60 s); M is 6",
+             (4, "print every 70 s")),
+    mistaken(5, 5, "document 01 allows 0 to 100,000,000 mL/s (0 to 100 m3/s)", (5, "flow at top 101 m3/s")),
+    mistaken(5, 5, "document 01 allows 0 to 100,000,000 mL/s (about 0 to 3531.46667 ft3/s)",
+             (5, "flow at top ~4000 ft3/s")),
+    mistaken(9, 6, "channel area A of reach 2 is 1,010,000 cm2 (101 m2); "
+             "document 01 allows 1 to 1,000,000 cm2 (0.0001 to 100 m2)", (9, "2 3 0.5 101 0.2 1e-3")),
+    mistaken(15, 6, "Kd of reach 1 is 1,001 mL/g; document 01 allows 0 to 1,000 mL/g (refused 6)",
              (15, "all 1e-4 2e-4 5e-3 3e-3 1e5 1001 70")),
-    mistaken(9, 7, "1,025 segments together; document 01 allows 1,024", (9, "2 1022 0.5 1 0.2 1e-3")),
-    mistaken(18, 8, "row 1 starts at step 1; the first row starts at step 0", (18, "1 10 7")),
-    mistaken(20, 8, "row 3 starts at step 2, which is not after row 2 (step 2)", (19, "2 20 900\n3 20 800")),
-    mistaken(19, 8, "row 2 starts at step 7, after the last step, 6", (19, "2 70 900")),
-    mistaken(19, 8, "the concentration of boundary row 2 is 1,001,000,000 ng/L",
+    mistaken(9, 7, "1,025 segments together; document 01 allows 1,024: take", (9, "2 1022 0.5 1 0.2 1e-3")),
+    mistaken(9, 7, "1,025 segments together (10250 m); document 01 allows 1,024 (10240 m): take", *BY_LENGTH,
+             (9, "2 10220 0.5 1 0.2 1e-3")),
+    mistaken(18, 8, "row 1 starts at step 1 (10 s); the first row starts at step 0", (18, "1 10 7")),
+    mistaken(20, 8, "row 3 starts at step 2 (20 s), which is not after row 2, at step 2 (20 s)",
+             (19, "2 20 900\n3 20 800")),
+    mistaken(19, 8, "row 2 starts at step 7 (70 s), after the last step, 6 (60 s)", (19, "2 70 900")),
+    mistaken(19, 8, "row 2 starts at step 7, after the last step, 6;", *ROWS_BY_STEP, (19, "2 7 900")),
+    mistaken(19, 8, "the concentration of boundary row 2 is 1,001,000,000 ng/L (1001 mg/L); "
+             "document 01 allows 0 to 1,000,000,000 ng/L (0 to 1000 mg/L)",
              (17, "unit s mg/L"), (19, "2 20 1001")),
-    mistaken(23, 9, "gauge 2 stands in segment 7; the river has segments 1 to 6", (23, "2 70")),
-    mistaken(23, 9, "gauge 2 stands in segment 1, which is not below gauge 1 (segment 1)", (23, "2 10")),
-    mistaken(8, 10, "in segment 2 (reach 1) the flow is -10,000 mL/s", (12, "all 0 3e6 0.5 1")),
+    mistaken(23, 9, "gauge 2 stands in segment 7 (70 m); the river has segments 1 to 6 (10 to 60 m)",
+             (23, "2 70")),
+    mistaken(23, 9, "gauge 2 stands in segment 7; the river has segments 1 to 6 (refused 9)", *GAUGES_BY_SEGMENT,
+             (22, "1 1"), (23, "2 7")),
+    mistaken(23, 9, "gauge 2 stands in segment 1 (10 m), which is not below gauge 1, in segment 1 (10 m)",
+             (23, "2 10")),
+    mistaken(8, 10, "in segment 2 (reach 1) the flow is -10,000 mL/s (-10 L/s)", (12, "all 0 3e6 0.5 1")),
+    mistaken(8, 10, "or raise the flow at the top by 130,000 mL/s (130 L/s)", (12, "all 0 3e6 0.5 1")),
+    mistaken(8, 10, "a flow is at most 100,000,000 mL/s (100000 L/s): lower qin above it, or the flow at the top "
+             "by 50,000 mL/s (50 L/s)", (5, "flow at top 1e5 L/s"), (12, "all 1e6 0 0.5 1")),
     mistaken(9, 11, "in segment 4 (reach 2) Q × dx, 20,060 × 1,000 = 20,060,000 cm4/s", (9, "2 3 0 1 0.2 1e-3")),
+    mistaken(9, 11, "a dispersion D of at least 1,003 cm2/s (0.1003 m2/s) in reach 2", (9, "2 3 0 1 0.2 1e-3")),
+    mistaken(9, 11, "segments of at most 498 cm (4.98 m) or a dispersion", (9, "2 3 0.05 1 0.2 1e-3")),
     mistaken(9, 12, "in segment 4 (reach 2) T is 1.", (9, "2 3 0.5 1 0.2 0.3")),
+    mistaken(9, 12, "with a step of at most 1 s (about 0.0166666666 min) the whole river passes",
+             (1, "step ~0.1666667 min"), (9, "2 3 0.5 1 0.2 0.3")),
 )
 
 

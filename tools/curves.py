@@ -11,9 +11,11 @@ from __future__ import annotations
 import argparse
 import sys
 from dataclasses import dataclass, field
+from fractions import Fraction
 from pathlib import Path
 from typing import NamedTuple, Optional
 
+import command
 import otis_model as model
 import svg_chart
 import units
@@ -24,9 +26,11 @@ SCALES = {"channel": ("ng/L", "µg/L", "mg/L"), "storage": ("ng/L", "µg/L", "mg
 PLOT_WIDTH, PLOT_HEIGHT = 66, 5
 BLOCKS = " ▁▂▃▄▅▆▇█"
 ASCII_BLOCKS = "     ####"
+STILL_ABOVE = "still above at the end"
+NEVER_ABOVE = "never above"
 
 
-class BadListing(ValueError):
+class BadListing(command.Stop):
     """A listing that is not understood, or one that says `refused`."""
 
 
@@ -100,26 +104,29 @@ class Scale(NamedTuple):
         power = max(at for at in range(3) if at == 0 or highest >= 1000 ** at)
         return cls(SCALES[name][power], 1000 ** power)
 
-    def words(self, figure: int) -> str:
-        return f"{figure / self.size:.5g} {self.unit}"
+    def words(self, figure: int | Fraction) -> str:
+        return f"{float(figure / self.size):.5g} {self.unit}"
 
 
-class Passage(NamedTuple):
-    """What a limit sees at one gauge: the first step above it, and the first after that not above."""
+class Spell(NamedTuple):
+    """A stretch of lines above a limit: its first step, and the first step not above any more if there is one."""
 
-    reached: Optional[int]
-    left: Optional[int]
+    begin: int
+    until: Optional[int]
 
 
-def passage(gauge: Gauge, name: str, limit: int) -> Passage:
-    reached = left = None
+def spells(gauge: Gauge, name: str, limit: Fraction) -> list[Spell]:
+    """Every spell above the limit at one gauge."""
+    found: list[Spell] = []
+    was_above = False
     for step, figure in zip(gauge.steps, gauge.figures[name]):
-        if reached is None and figure > limit:
-            reached = step
-        elif reached is not None and figure <= limit:
-            left = step
-            break
-    return Passage(reached, left)
+        above = figure > limit
+        if above and not was_above:
+            found.append(Spell(step, None))
+        elif was_above and not above:
+            found[-1] = found[-1]._replace(until=step)
+        was_above = above
+    return found
 
 
 class Show:
@@ -133,7 +140,7 @@ class Show:
         self.dx: Optional[int] = None
         dt = asked.dt
         if asked.sheet:
-            found = model.read_sheet(Path(asked.sheet).read_bytes())
+            found = accepted_sheet(asked.sheet)
             dt, self.dx = found.header.dt, found.header.dx
             if [gauge.segment for gauge in gauges] != found.gauges:
                 raise BadListing(f"the listing's gauges are not those of {asked.sheet}")
@@ -141,7 +148,7 @@ class Show:
         self.scales = {name: Scale.for_figures(name, max([*(max(gauge.figures[name]) for gauge in gauges),
                                                           self.limit_of(name) or 0])) for name in self.names}
 
-    def limit_of(self, name: str) -> Optional[int]:
+    def limit_of(self, name: str) -> Optional[Fraction]:
         """The limit is one for the channel."""
         return self.limit if name == "channel" else None
 
@@ -151,20 +158,23 @@ class Show:
     # The table
 
     def table(self, name: str) -> list[str]:
-        """For each gauge its peak and when it is first there; with a limit, when it is above."""
+        """For each gauge its peak and when it is first there; with a limit, a row for each spell above it."""
         scale, limit = self.scales[name], self.limit_of(name)
         rows = [["gauge", f"peak, {name}", "first at"]]
         if limit is not None:
-            rows[0] += [f"above {scale.words(limit)} from", "no more from"]
+            rows[0] += [f"above {scale.words(limit)} from", "until"]
         for gauge in self.gauges:
             peak = max(gauge.figures[name])
             at = gauge.steps[gauge.figures[name].index(peak)]
             rows.append([self.gauge_name(gauge), scale.words(peak), self.clock.words(at)])
             if limit is not None:
-                rows[-1] += ["-" if step is None else self.clock.words(step)
-                             for step in passage(gauge, name, limit)]
+                first, *more = [[self.clock.words(spell.begin),
+                                 STILL_ABOVE if spell.until is None else self.clock.words(spell.until)]
+                                for spell in spells(gauge, name, limit)] or [[NEVER_ABOVE, ""]]
+                rows[-1] += first
+                rows += [[self.gauge_name(gauge), "", "", *times] for times in more]
         widths = [max(len(row[at]) for row in rows) for at in range(len(rows[0]))]
-        return ["   ".join(cell.rjust(width) for cell, width in zip(row, widths)) for row in rows]
+        return ["   ".join(cell.rjust(width) for cell, width in zip(row, widths)).rstrip() for row in rows]
 
     # A plot in text
 
@@ -200,25 +210,48 @@ class Show:
             for gauge in self.gauges:
                 points = [(self.clock.at(step), figure / scale.size)
                           for step, figure in zip(gauge.steps, gauge.figures[name])]
-                lines.append(svg_chart.Line(self.gauge_name(gauge), points))
+                line = svg_chart.Line(self.gauge_name(gauge), points)
+                lines.append(line if limit is None else self.with_bars(line, gauge, spells(gauge, name, limit)))
             panel = svg_chart.Panel(f"{self.title}: {name}" if self.title else name.capitalize(), self.clock.label,
                                     f"{name} concentration, {scale.unit}", self.clock.at(0), lines)
             if limit is not None:
-                panel = panel._replace(limit=limit / scale.size, limit_name=f"limit {scale.words(limit)}")
+                panel = panel._replace(limit=float(limit / scale.size), limit_name=f"limit {scale.words(limit)}",
+                                       bars_name=f"above {scale.words(limit)}")
             panels.append(panel)
         return svg_chart.picture(panels, self.clock.unit == "h")
 
+    def with_bars(self, line: svg_chart.Line, gauge: Gauge, found: list[Spell]) -> svg_chart.Line:
+        """A curve with a bar for each spell above the limit."""
+        bars = []
+        for spell in found:
+            last = gauge.steps[-1] if spell.until is None else spell.until
+            words = f"{line.name}: above from {self.clock.words(spell.begin)}, " + (
+                STILL_ABOVE if spell.until is None else f"until {self.clock.words(spell.until)}")
+            bars.append(svg_chart.Bar(self.clock.at(spell.begin), self.clock.at(last), words))
+        note = NEVER_ABOVE if not found else STILL_ABOVE if found[-1].until is None else ""
+        return line._replace(bars=tuple(bars), bars_note=note)
 
-def limit_figure(text: str) -> int:
-    """A limit such as '10 mg/L' in ng/L; a bare number is in ng/L."""
+
+def accepted_sheet(path: str) -> model.Sheet:
+    try:
+        return model.read_sheet(Path(path).read_bytes())
+    except model.Refusal as refusal:
+        raise command.Stop(f"{path} is refused {refusal.number}; tools/sheet.py explain says why") from refusal
+
+
+def limit_figure(text: str) -> Fraction:
+    """A limit such as '10 mg/L', in ng/L."""
     begin = units.NUMBER.match(text)
     try:
         if begin is None:
             raise units.BadText(f"'{text}' is not a concentration such as '10 mg/L'")
-        value = units.number(begin[0]) * units.CONCENTRATION.factor(text[begin.end():].strip() or "ng/L")
+        unit = text[begin.end():].strip()
+        if not unit:
+            known = ", ".join(units.CONCENTRATION.units)
+            raise units.BadText(f"'{text}' has no unit: write one of {known} after the figure, as in '10 mg/L'")
+        return units.number(begin[0]) * units.CONCENTRATION.factor(unit)
     except units.BadText as bad:
         raise argparse.ArgumentTypeError(str(bad)) from bad
-    return model.nearest(value.numerator, value.denominator)
 
 
 def seconds(text: str) -> int:
@@ -235,7 +268,7 @@ def arguments() -> argparse.Namespace:
     times.add_argument("--dt", type=seconds, help="the step in seconds")
     parser.add_argument("-o", "--output", help="write the curves here, as SVG")
     parser.add_argument("--show", nargs="+", choices=SHOWN, default=["channel"], help="what to show")
-    parser.add_argument("--limit", type=limit_figure, help="a limit for the channel, such as '10 mg/L'")
+    parser.add_argument("--limit", type=limit_figure, help="a limit for the channel, with its unit: '10 mg/L'")
     parser.add_argument("--clock", type=float, help="the hour at step 0; times are shown on that clock")
     parser.add_argument("--title", default="", help="title of the curves")
     parser.add_argument("--no-plot", action="store_true", help="print the table alone")
@@ -244,17 +277,9 @@ def arguments() -> argparse.Namespace:
 
 def main() -> int:
     asked = arguments()
-    try:
-        text = sys.stdin.read() if asked.listing == "-" else Path(asked.listing).read_text()
-        show = Show(read_listing(text), asked)
-        if asked.output:
-            Path(asked.output).write_text(show.svg(), encoding="utf-8")
-    except (OSError, BadListing) as fault:
-        print(fault, file=sys.stderr)
-        return 1
-    except model.Refusal as refusal:
-        print(f"{asked.sheet} is refused {refusal.number}; tools/sheet.py explain says why", file=sys.stderr)
-        return 1
+    show = Show(read_listing(command.given_text(asked.listing)), asked)
+    if asked.output:
+        Path(asked.output).write_text(show.svg(), encoding="utf-8")
     unicode = (sys.stdout.encoding or "").lower().startswith("utf")
     out: list[str] = []
     for name in show.names:
@@ -270,4 +295,4 @@ def main() -> int:
 
 
 if __name__ == "__main__":
-    sys.exit(main())
+    command.run(main)

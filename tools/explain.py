@@ -5,14 +5,15 @@ the limit that they break, and what to change.
 """
 from __future__ import annotations
 
-from collections.abc import Callable, Iterator
+from collections.abc import Callable, Iterator, Mapping
 from dataclasses import replace
-from typing import NamedTuple
+from decimal import ROUND_CEILING, ROUND_FLOOR, ROUND_HALF_UP
+from typing import NamedTuple, Optional
 
 import otis_model as model
 import units
-from otis_model import FIELD, MARK, ONE_WHOLE, Header, Place, Range, Reach, Refusal, Row, Segment, Sheet, Walk
-from units import HEADER_KINDS, REACH_KINDS, Quantity
+from otis_model import FIELD, MARK, ONE_WHOLE, Header, Place, Range, Reach, Refusal, Segment, Sheet, Walk
+from units import HEADER_KINDS, REACH_KINDS, Quantity, Unit
 
 TERMS = {
     "dt": "the step dt", "dx": "the segment length dx", "M": "the count of steps M",
@@ -22,6 +23,9 @@ TERMS = {
     "LAMBDA": "decay rate LAMBDA", "LAMBDA2": "decay rate in storage LAMBDA2", "LAMHAT": "sorption rate LAMHAT",
     "LAMHAT2": "sorption rate in storage LAMHAT2", "RHO": "sediment RHO", "Kd": "distribution coefficient Kd",
     "CB": "storage background CB", "start": "start figure"}
+
+
+DT, DX = (model.header_ranges(1)[name] for name in ("dt", "dx"))
 
 
 class Section(NamedTuple):
@@ -48,13 +52,29 @@ class Fault(NamedTuple):
     remedy: str
 
 
-def figure(value: int, kind: Quantity) -> str:
-    """A figure as the sheet holds it, with its unit."""
-    return f"{value:,}" if kind is units.COUNT else f"{value:,} {kind.own_unit}"
+# The units that a text gave its fields in, by table ("header", "reach", "boundary" or "gauge"), number and field;
+# those that were written as the sheet holds them are left out
+Written = Mapping[tuple[str, int, str], Unit]
 
 
-def limits(allowed: Range, kind: Quantity) -> str:
-    return f"{allowed.low:,} to {figure(allowed.high, kind)}"
+def also(value: int, unit: Optional[Unit], rounding: str = ROUND_HALF_UP) -> str:
+    """A figure once more, in the unit that it was written in."""
+    return "" if unit is None else f" ({units.about(value / unit.size, rounding)} {unit.name})"
+
+
+def figure(value: int, kind: Quantity, unit: Optional[Unit] = None, rounding: str = ROUND_HALF_UP) -> str:
+    """A figure as the sheet holds it, and in the unit that it was written in."""
+    own = f"{value:,}" if kind is units.COUNT else f"{value:,} {kind.own_unit}"
+    return own + also(value, unit, rounding)
+
+
+def at_most(value: int, kind: Quantity, unit: Optional[Unit] = None) -> str:
+    return f"at most {figure(value, kind, unit, ROUND_FLOOR)}"
+
+
+def limits(allowed: Range, kind: Quantity, unit: Optional[Unit] = None) -> str:
+    own = f"{allowed.low:,} to {figure(allowed.high, kind)}"
+    return own if unit is None else f"{own} ({units.span(allowed.low, allowed.high, unit)})"
 
 
 def share(part: float) -> str:
@@ -127,66 +147,72 @@ def tail_faults(sheet: bytes) -> Iterator[Fault]:
 # Tests 5 to 9: ranges, rows and gauges
 
 
-def range_remedy(allowed: Range, kind: Quantity) -> str:
-    return f"document 01 allows {limits(allowed, kind)}"
+def range_remedy(allowed: Range, kind: Quantity, unit: Optional[Unit]) -> str:
+    return f"document 01 allows {limits(allowed, kind, unit)}"
 
 
-def header_faults(found: Sheet) -> Iterator[Fault]:
+def header_faults(found: Sheet, written: Written) -> Iterator[Fault]:
     for name, allowed in model.header_ranges(found.header.M).items():
-        value, kind = getattr(found.header, name), HEADER_KINDS[name]
+        value, kind, unit = getattr(found.header, name), HEADER_KINDS[name], written.get(("header", 0, name))
         if not allowed.holds(value):
-            remedy = range_remedy(allowed, kind) + (" (M)" if name == "interval" else "")
-            yield Fault(5, None, name, f"{TERMS[name]} is {figure(value, kind)}", remedy)
+            remedy = range_remedy(allowed, kind, unit) + (f"; M is {allowed.high:,}" if name == "interval" else "")
+            yield Fault(5, None, name, f"{TERMS[name]} is {figure(value, kind, unit)}", remedy)
 
 
-def reach_faults(found: Sheet) -> Iterator[Fault]:
+def reach_faults(found: Sheet, written: Written) -> Iterator[Fault]:
     for at, reach in enumerate(found.reaches, 1):
         for name, allowed in model.REACH_RANGES.items():
-            value, kind = getattr(reach, name), REACH_KINDS[name]
+            value, kind, unit = getattr(reach, name), REACH_KINDS[name], written.get(("reach", at, name))
             if not allowed.holds(value):
-                yield Fault(6, ("reach", at), name, f"{TERMS[name]} of reach {at} is {figure(value, kind)}",
-                            range_remedy(allowed, kind))
+                yield Fault(6, ("reach", at), name, f"{TERMS[name]} of reach {at} is {figure(value, kind, unit)}",
+                            range_remedy(allowed, kind, unit))
 
 
-def length_faults(found: Sheet) -> Iterator[Fault]:
+def length_faults(found: Sheet, written: Written) -> Iterator[Fault]:
+    unit = written.get(("reach", len(found.reaches), "segments"))
     segments = model.segment_count(found.reaches)
-    yield Fault(7, None, "segments", f"the reaches have {segments:,} segments together",
-                f"document 01 allows {model.MOST_SEGMENTS:,}: take longer or fewer segments")
+    yield Fault(7, None, "segments", f"the reaches have {segments:,} segments together{also(segments, unit)}",
+                f"document 01 allows {figure(model.MOST_SEGMENTS, units.COUNT, unit, ROUND_FLOOR)}: "
+                "take longer or fewer segments")
 
 
-def row_faults(found: Sheet) -> Iterator[Fault]:
+def row_faults(found: Sheet, written: Written) -> Iterator[Fault]:
     M, rows = found.header.M, found.rows
     for at, (row, fault) in enumerate(zip(rows, model.row_faults(rows, M)), 1):
         if not fault:
             continue
-        place = ("row", at)
+        place, unit = ("row", at), written.get(("boundary", at, "start"))
+        begins = f"boundary row {at} starts at step {figure(row.start, units.COUNT, unit)}"
         if at == 1 and row.start != 0:
-            yield Fault(8, place, "start", f"boundary row 1 starts at step {row.start:,}",
-                        "the first row starts at step 0")
+            yield Fault(8, place, "start", begins, "the first row starts at step 0")
         if at > 1 and row.start <= rows[at - 2].start:
-            yield Fault(8, place, "start", f"boundary row {at} starts at step {row.start:,}, which is not after "
-                        f"row {at - 1} (step {rows[at - 2].start:,})", "starts rise strictly from row to row")
+            yield Fault(8, place, "start", f"{begins}, which is not after row {at - 1}, "
+                        f"at step {figure(rows[at - 2].start, units.COUNT, unit)}",
+                        "starts rise strictly from row to row")
         if row.start > M:
-            yield Fault(8, place, "start", f"boundary row {at} starts at step {row.start:,}, after the last step, "
-                        f"{M:,}", "a row starts at the last step at the latest")
+            yield Fault(8, place, "start", f"{begins}, after the last step, {figure(M, units.COUNT, unit)}",
+                        "a row starts at the last step at the latest")
         if not model.CONCENTRATION.holds(row.concentration):
-            found_there = figure(row.concentration, units.CONCENTRATION)
+            unit = written.get(("boundary", at, "concentration"))
+            found_there = figure(row.concentration, units.CONCENTRATION, unit)
             yield Fault(8, place, "concentration", f"the concentration of boundary row {at} is {found_there}",
-                        range_remedy(model.CONCENTRATION, units.CONCENTRATION))
+                        range_remedy(model.CONCENTRATION, units.CONCENTRATION, unit))
 
 
-def gauge_faults(found: Sheet) -> Iterator[Fault]:
+def gauge_faults(found: Sheet, written: Written) -> Iterator[Fault]:
     last = model.segment_count(found.reaches)
     gauges = found.gauges
     for at, (gauge, fault) in enumerate(zip(gauges, model.gauge_faults(gauges, last)), 1):
         if not fault:
             continue
+        unit = written.get(("gauge", at, "segment"))
+        stands = f"gauge {at} stands in segment {figure(gauge, units.COUNT, unit)}"
         if not 1 <= gauge <= last:
-            yield Fault(9, ("row", at), "segment", f"gauge {at} stands in segment {gauge:,}",
-                        f"the river has segments 1 to {last:,}")
+            yield Fault(9, ("row", at), "segment", stands,
+                        f"the river has segments {limits(Range(1, last), units.COUNT, unit)}")
         if at > 1 and gauge <= gauges[at - 2]:
-            yield Fault(9, ("row", at), "segment", f"gauge {at} stands in segment {gauge:,}, which is not below "
-                        f"gauge {at - 1} (segment {gauges[at - 2]:,})",
+            yield Fault(9, ("row", at), "segment", f"{stands}, which is not below gauge {at - 1}, "
+                        f"in segment {figure(gauges[at - 2], units.COUNT, unit)}",
                         "segment numbers rise strictly from gauge to gauge")
 
 
@@ -206,20 +232,21 @@ def at_segment(found: Sheet, segment: int) -> str:
     return f"in segment {segment} (reach {reach_of(found, segment)})"
 
 
-def flow_faults(found: Sheet, segment: int) -> Iterator[Fault]:
+def flow_faults(found: Sheet, segment: int, written: Written) -> Iterator[Fault]:
     flows = model.flows(found.header, model.reach_of_segments(found.reaches))
-    flow = flows[segment - 1]
+    flow, unit = flows[segment - 1], written.get(("header", 0, "top_flow"))
     if flow < 0:
         remedy = (f"the outflow qout above it takes more than the river has: lower it, "
-                  f"or raise the flow at the top by {figure(-min(flows), units.FLOW)}")
+                  f"or raise the flow at the top by {figure(-min(flows), units.FLOW, unit, ROUND_CEILING)}")
     else:
-        remedy = (f"a flow is at most {figure(model.HIGHEST_FLOW, units.FLOW)}: lower qin above it, "
-                  f"or the flow at the top by {figure(max(flows) - model.HIGHEST_FLOW, units.FLOW)}")
+        excess = figure(max(flows) - model.HIGHEST_FLOW, units.FLOW, unit, ROUND_CEILING)
+        remedy = (f"a flow is {at_most(model.HIGHEST_FLOW, units.FLOW, unit)}: lower qin above it, "
+                  f"or the flow at the top by {excess}")
     yield Fault(10, ("segment", segment), "",
-                f"{at_segment(found, segment)} the flow is {figure(flow, units.FLOW)}", remedy)
+                f"{at_segment(found, segment)} the flow is {figure(flow, units.FLOW, unit)}", remedy)
 
 
-def dispersion_faults(found: Sheet, segment: int) -> Iterator[Fault]:
+def dispersion_faults(found: Sheet, segment: int, written: Written) -> Iterator[Fault]:
     own = model.reach_of_segments(found.reaches)
     Q = model.flows(found.header, own)[segment - 1]
     _, here, below = model.dispersion_around(own)[segment - 1]
@@ -227,11 +254,13 @@ def dispersion_faults(found: Sheet, segment: int) -> Iterator[Fault]:
     last_of_reach = segment == sum(each.segments for each in found.reaches[:reach]) < len(own)
     remedies = []
     shorter = (here + below) // Q
-    if model.header_ranges(1)["dx"].holds(shorter):
-        remedies.append(f"segments of at most {figure(shorter, units.LENGTH)}")
+    if DX.holds(shorter):
+        remedies.append(f"segments of {at_most(shorter, units.LENGTH, written.get(('header', 0, 'dx')))}")
     enough = -((below - Q * dx) // A) if last_of_reach else -(-Q * dx // (2 * A))
     if model.REACH_RANGES["D"].holds(enough):
-        remedies.append(f"a dispersion D of at least {figure(enough, units.DISPERSION)} in reach {reach}")
+        unit = written.get(("reach", reach, "D"))
+        remedies.append(f"a dispersion D of at least {figure(enough, units.DISPERSION, unit, ROUND_CEILING)} "
+                        f"in reach {reach}")
     remedy = " or ".join(remedies) + " would do here" if remedies else "raise D"
     yield Fault(11, ("segment", segment), "D",
                 f"{at_segment(found, segment)} Q × dx, {Q:,} × {dx:,} = {Q * dx:,} cm4/s, "
@@ -246,27 +275,56 @@ def half_step_numbers(found: Sheet, segment: int) -> Segment:
                          model.dispersion_around(own)[at], segment == len(own))
 
 
-def passes_12(found: Sheet, dt: int) -> bool:
-    try:
-        model.river_of(replace(found, header=found.header._replace(dt=dt)))
-    except Refusal:
-        return False
-    return True
-
-
 def longest_step(found: Sheet) -> int:
-    """The longest step with which a river that passes 10 and 11 passes 12 too; 0 if there is none."""
-    low, high = 0, model.header_ranges(1)["dt"].high + 1
+    """The longest dt for which a river, its flows in range, passes 12, all else unchanged; 0 if there is none.
+
+    It is found by halving, since a river that passes with a step passes with every shorter one: each sum has
+    at most six terms and so lies within 3 parts of dt x its rate, and if it is above one whole with up to 3,600
+    seconds, one second more adds some 300,000 parts.
+    """
+    own = model.reach_of_segments(found.reaches)
+    Q, AD = model.flows(found.header, own), model.dispersion_around(own)
+    low, high = 0, DT.high + 1
     while high - low > 1:
         middle = (low + high) // 2
-        low, high = (middle, high) if passes_12(found, middle) else (low, middle)
+        river = model.segments_of(found.header._replace(dt=middle), own, Q, AD)
+        low, high = (low, middle) if any(part.over_one_whole() for part in river) else (middle, high)
     return low
 
 
-def sum_faults(found: Sheet, segment: int) -> Iterator[Fault]:
+def refused_at(header: Header, gains: list[int], AD: list[tuple[int, int, int]]) -> Optional[int]:
+    """Where tests 10 and 11 refuse segments with these net gains and AD, from 0 on; nothing where they pass."""
+    try:
+        model.test_flows(header.dx, [model.flow(header, gain) for gain in gains], AD)
+    except Refusal as refusal:
+        return refusal.place[1] - 1
+    return None
+
+
+def longest_segments(found: Sheet) -> int:
+    """The longest dx for which the river passes 11 (and 10 before it), all else unchanged; 0 if there is none.
+
+    Flows change with dx, and a river may pass with long segments where it does not with shorter ones: all lengths
+    are tried, from the longest on.  The segment that refused one mostly refuses the next, and is asked first.
+    """
+    own = model.reach_of_segments(found.reaches)
+    gains, AD = model.gains(own), model.dispersion_around(own)
+    first = 0
+    for dx in range(DX.high, DX.low - 1, -1):
+        header = found.header._replace(dx=dx)
+        if refused_at(header, gains[first:first + 1], AD[first:first + 1]) is None:
+            at = refused_at(header, gains, AD)
+            if at is None:
+                return dx
+            first = at
+    return 0
+
+
+def sum_faults(found: Sheet, segment: int, written: Written) -> Iterator[Fault]:
     part = half_step_numbers(found, segment)
     longest = longest_step(found)
-    remedy = (f"with a step of at most {longest:,} s the whole river passes" if longest else
+    unit = written.get(("header", 0, "dt"))
+    remedy = (f"with a step of {at_most(longest, units.TIME, unit)} the whole river passes" if longest else
               "no whole number of seconds is short enough: lower rates or dispersion, or take longer segments")
     for name, total, terms in (("T", part.T, "eglaks"), ("V", part.V, ("b", "ks", "m")), ("h", part.h, "h")):
         if total > ONE_WHOLE:
@@ -278,13 +336,13 @@ def sum_faults(found: Sheet, segment: int) -> Iterator[Fault]:
 
 BYTE_TESTS: dict[int, Callable[[bytes], Iterator[Fault]]] = {
     1: mark_faults, 2: end_faults, 3: count_faults, 4: tail_faults}
-FIELD_TESTS: dict[int, Callable[[Sheet], Iterator[Fault]]] = {
+FIELD_TESTS: dict[int, Callable[[Sheet, Written], Iterator[Fault]]] = {
     5: header_faults, 6: reach_faults, 7: length_faults, 8: row_faults, 9: gauge_faults}
-SEGMENT_TESTS: dict[int, Callable[[Sheet, int], Iterator[Fault]]] = {
+SEGMENT_TESTS: dict[int, Callable[[Sheet, int, Written], Iterator[Fault]]] = {
     10: flow_faults, 11: dispersion_faults, 12: sum_faults}
 
 
-def faults(sheet: bytes) -> list[Fault]:
+def faults(sheet: bytes, written: Written = {}) -> list[Fault]:
     """What breaks the first test that fails, the refusal's own place first; nothing when the sheet is accepted."""
     refusal = model.answer(sheet)
     if refusal is None:
@@ -293,8 +351,8 @@ def faults(sheet: bytes) -> list[Fault]:
         return list(BYTE_TESTS[refusal.number](sheet))
     found = model.walk(Walk(sheet))
     if refusal.number in FIELD_TESTS:
-        return list(FIELD_TESTS[refusal.number](found))
-    return list(SEGMENT_TESTS[refusal.number](found, refusal.place[1]))
+        return list(FIELD_TESTS[refusal.number](found, written))
+    return list(SEGMENT_TESTS[refusal.number](found, refusal.place[1], written))
 
 
 # What is said of a sheet
@@ -359,7 +417,37 @@ def accepted_words(sheet: bytes) -> str:
     return "accepted\n" + "\n".join(f"  {line}" for line in lines)
 
 
+def has_river(found: Sheet) -> bool:
+    """The sheet has segments and flows: its reaches and the flow at the top are in range."""
+    return (model.FLOW.holds(found.header.top_flow) and model.segment_count(found.reaches) <= model.MOST_SEGMENTS
+            and all(model.in_ranges(reach, model.REACH_RANGES) for reach in found.reaches))
+
+
+def longest_words(found: Sheet) -> Iterator[str]:
+    """The longest dx and dt that pass, each with all else unchanged; dt with that dx too, where dx must change."""
+    own = model.reach_of_segments(found.reaches)
+    gains, AD = model.gains(own), model.dispersion_around(own)
+    dx = longest_segments(found)
+    found_dx = f"{figure(dx, units.LENGTH)} ({metres(dx)})" if dx else f"none from {limits(DX, units.LENGTH)}"
+    yield f"the longest dx for which the whole river passes 11, all else unchanged: {found_dx}"
+
+    def step_words(river: Sheet) -> str:
+        dt = longest_step(river)
+        return figure(dt, units.TIME) if dt else f"none from {limits(DT, units.TIME)}"
+
+    in_range = DX.holds(found.header.dx) and all(map(model.FLOW.holds, model.flows(found.header, own)))
+    found_dt = step_words(found) if in_range else "not to be told while dx or a flow is out of range"
+    yield f"the longest dt for which the whole river passes 12, all else unchanged: {found_dt}"
+    if dx and not (in_range and refused_at(found.header, gains, AD) is None):
+        other = replace(found, header=found.header._replace(dx=dx))
+        yield f"the longest dt for which the whole river passes 12 with that dx: {step_words(other)}"
+
+
 def words(sheet: bytes) -> str:
-    """The refusal, or a summary of the accepted sheet."""
-    found = faults(sheet)
-    return refusal_words(found) if found else accepted_words(sheet)
+    """The refusal, or a summary of the accepted sheet; then how long dx and dt may be."""
+    refused = faults(sheet)
+    lines = [refusal_words(refused) if refused else accepted_words(sheet)]
+    if not refused or refused[0].number not in BYTE_TESTS:
+        found = model.walk(Walk(sheet))
+        lines += [f"  {line}" for line in longest_words(found)] if has_river(found) else []
+    return "\n".join(lines)

@@ -9,6 +9,7 @@ from __future__ import annotations
 
 from collections.abc import Iterable, Iterator
 from dataclasses import dataclass
+from itertools import accumulate
 from typing import NamedTuple, Optional
 
 MARK = b"OTR1"
@@ -240,14 +241,18 @@ def reach_of_segments(reaches: list[Reach]) -> list[Reach]:
     return [reach for reach in reaches for _ in range(reach.segments)]
 
 
+def gains(own: list[Reach]) -> list[int]:
+    """The sum of qin - qout over the segments before each one."""
+    return list(accumulate((reach.qin - reach.qout for reach in own[:-1]), initial=0))
+
+
+def flow(header: Header, gain: int) -> int:
+    """A segment's flow: top flow plus the net gain of the segments before it, rounded down once."""
+    return header.top_flow + gain * header.dx // LATERAL
+
+
 def flows(header: Header, own: list[Reach]) -> list[int]:
-    """Segment i's flow: top flow plus the net gain of the segments before it, rounded down once."""
-    found = []
-    gain = 0
-    for reach in own:
-        found.append(header.top_flow + gain * header.dx // LATERAL)
-        gain += reach.qin - reach.qout
-    return found
+    return [flow(header, gain) for gain in gains(own)]
 
 
 def dispersion_around(own: list[Reach]) -> list[tuple[int, int, int]]:
@@ -311,16 +316,24 @@ def segment(header: Header, reach: Reach, Q: int, AD: tuple[int, int, int], last
         CL=reach.CL, CB=reach.CB, Kd=reach.Kd, start=reach.start)
 
 
+def test_flows(dx: int, Q: list[int], AD: list[tuple[int, int, int]]) -> None:
+    """Tests 10 and 11, each over the whole river before the next."""
+    refuse_first(10, "segment", (not FLOW.holds(flow) for flow in Q))
+    refuse_first(11, "segment", (flow * dx > here + below for flow, (_, here, below) in zip(Q, AD)))
+
+
+def segments_of(header: Header, own: list[Reach], Q: list[int], AD: list[tuple[int, int, int]]) -> list[Segment]:
+    last = len(own) - 1
+    return [segment(header, reach, Q[at], AD[at], at == last) for at, reach in enumerate(own)]
+
+
 def river_of(found: Sheet) -> list[Segment]:
     """Tests 10 to 12, each over the whole river before the next; then the river's segments."""
     own = reach_of_segments(found.reaches)
     Q = flows(found.header, own)
     AD = dispersion_around(own)
-    dx = found.header.dx
-    refuse_first(10, "segment", (not FLOW.holds(flow) for flow in Q))
-    refuse_first(11, "segment", (flow * dx > here + below for flow, (_, here, below) in zip(Q, AD)))
-    last = len(own) - 1
-    river = [segment(found.header, reach, Q[at], AD[at], at == last) for at, reach in enumerate(own)]
+    test_flows(found.header.dx, Q, AD)
+    river = segments_of(found.header, own, Q, AD)
     refuse_first(12, "segment", (part.over_one_whole() for part in river))
     return river
 

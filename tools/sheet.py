@@ -5,41 +5,21 @@
     python3 tools/sheet.py explain FILE.otr             why a sheet is refused, or what an accepted one holds
 
 A file may be - for standard input or output.  The exit status is 0 when all is well, 1 when the text has a
-mistake or the sheet is refused.  docs/TOOLS.md describes the text.
+mistake, the sheet is refused or a file cannot be read or written.  docs/TOOLS.md describes the text.
 """
 from __future__ import annotations
 
 import argparse
-import sys
-from pathlib import Path
 
+import command
 import explain
 import sheet_text
-
-
-def given(path: str) -> bytes:
-    return sys.stdin.buffer.read() if path == "-" else Path(path).read_bytes()
-
-
-def put(path: str, content: bytes) -> None:
-    if path == "-":
-        sys.stdout.buffer.write(content)
-    else:
-        Path(path).write_bytes(content)
-
-
-def say(line: str) -> None:
-    print(line, file=sys.stderr)
+from command import given, put, say
 
 
 def make(asked: argparse.Namespace) -> int:
     """Writes the sheet when document 01 accepts it; mistakes and roundings go to standard error."""
-    try:
-        text = given(asked.file).decode("utf-8")
-    except UnicodeDecodeError as fault:
-        say(f"{asked.file}: not a text in UTF-8 (byte {fault.start})")
-        return 1
-    made = sheet_text.make(text)
+    made = sheet_text.make(command.given_text(asked.file))
     for note in made.rounded:
         say(f"{asked.file}, line {note.line}: {note.words}")
     for mistake in made.mistakes:
@@ -73,28 +53,22 @@ def arguments() -> argparse.Namespace:
     commands = parser.add_subparsers(dest="command", required=True)
     for name, call, words in (("make", make, "a sheet from its text"), ("read", read, "the text of a sheet"),
                               ("explain", explain_sheet, "why a sheet is refused, or what it holds")):
-        command = commands.add_parser(name, help=words)
-        command.set_defaults(call=call)
-        command.add_argument("file")
+        each = commands.add_parser(name, help=words)
+        each.set_defaults(call=call)
+        each.add_argument("file")
         if name == "make":
-            command.add_argument("-o", "--output", required=True)
-            command.add_argument("--even-refused", action="store_true",
-                                 help="write a sheet that document 01 refuses, too")
+            each.add_argument("-o", "--output", required=True)
+            each.add_argument("--even-refused", action="store_true",
+                              help="write a sheet that document 01 refuses, too")
         elif name == "read":
-            command.add_argument("-o", "--output", default="-")
+            each.add_argument("-o", "--output", default="-")
     return parser.parse_args()
 
 
 def main() -> int:
     asked = arguments()
-    for stream in (sys.stdout, sys.stderr):
-        stream.reconfigure(errors="replace")            # a terminal without × shows another sign
-    try:
-        return asked.call(asked)
-    except OSError as fault:
-        say(str(fault))
-        return 1
+    return asked.call(asked)
 
 
 if __name__ == "__main__":
-    sys.exit(main())
+    command.run(main)

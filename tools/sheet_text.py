@@ -16,7 +16,7 @@ import explain
 import otis_model as model
 import units
 from otis_model import FIELD, MARK, Header, Reach, Row, Sheet
-from units import HEADER_KINDS, REACH_KINDS, BadText, Quantity, in_unit, liked_unit, with_unit
+from units import HEADER_KINDS, REACH_KINDS, BadText, Quantity, Unit, about, in_unit, liked_unit, with_unit
 
 HIGHEST_FIELD = 2 ** (8 * FIELD) - 1
 NEAREST = "~"                       # before a figure: take the nearest whole one
@@ -71,6 +71,7 @@ class Cell(NamedTuple):
     value: Fraction
     nearest: bool
     column: Column
+    unit: Optional[Unit]            # nothing for a bare count
 
 
 @dataclass
@@ -233,8 +234,9 @@ class Reader:
         except BadText as bad:
             self.mistake(f"{name}: {bad}")
             value = Fraction(0)
-        written = text if unit in ("", "-") else f"{text} {unit}"
-        into[column.field] = Cell(self.line, name, written, value, nearest, column)
+        counted = unit in ("", "-")
+        into[column.field] = Cell(self.line, name, text if counted else f"{text} {unit}", value, nearest, column,
+                                  None if counted else Unit(unit, factor))
 
 
 def is_label(word: str) -> bool:
@@ -260,43 +262,54 @@ class Made(NamedTuple):
 
 
 class Maker:
-    """Turns what a text gives into whole figures, with the line of each."""
+    """Turns what a text gives into whole figures, with the cell of each."""
 
     def __init__(self, given: Given) -> None:
         self.given = given
         self.mistakes: list[Mistake] = []
         self.rounded: list[Mistake] = []
-        self.lines: dict[tuple[str, int, str], int] = {}
+        self.cells: dict[tuple[str, int, str], Cell] = {}
         self.sizes: dict[str, int] = {}             # dt and dx, once they are known
 
     def mistake(self, line: int, words: str) -> None:
         self.mistakes.append(Mistake(line, words))
 
+    def unit_of(self, cell: Cell) -> Optional[Unit]:
+        """The unit that a cell was written in, as explain.Written has it."""
+        column = cell.column
+        if cell.unit is None or (not column.per and units.spelled(cell.unit.name) == column.kind.own_unit):
+            return None
+        return cell.unit._replace(size=cell.unit.size / self.sizes[column.per]) if column.per else cell.unit
+
     def figure(self, cell: Cell) -> int:
         """The whole figure of a cell, in the sheet's unit."""
         column = cell.column
-        unit = "" if column.kind is units.COUNT else f" {column.kind.own_unit}"
+        kind = units.COUNT if column.per else column.kind
+        own_unit = "" if kind is units.COUNT else f" {kind.own_unit}"
         value = cell.value
         if column.per:
             size = self.sizes[column.per]
             several = "steps" if column.per == "dt" else "segments"
-            unit = f" {several} of {with_unit(size, HEADER_KINDS[column.per])}"
+            own_unit = f" {several} of {with_unit(size, HEADER_KINDS[column.per])}"
             if size == 0:
-                self.mistake(cell.line, f"{cell.name} is {cell.text}, counted in{unit}")
+                self.mistake(cell.line, f"{cell.name} is {cell.text}, counted in{own_unit}")
                 return 0
             value /= size
+        unit = self.unit_of(cell)
         if value.denominator != 1:
             whole = model.nearest(value.numerator, value.denominator)
-            exact = f"{cell.name} is {cell.text}, that is {shown(value)}{unit}"
+            exact = f"{cell.name} is {cell.text}, that is {about(value)}{own_unit}"
             if cell.nearest:
                 self.rounded.append(Mistake(cell.line, f"{exact}; {whole:,} is taken"))
             else:
-                self.mistake(cell.line, f"{exact}: not a whole number. "
-                             f"Write {NEAREST}{cell.text} to take the nearest")
+                if unit and kind not in (units.COUNT, units.RATE) and unit.size.denominator != 1:
+                    exact += f" (1 {unit.name} is {about(unit.size)}{own_unit})"
+                self.mistake(cell.line, f"{exact}: not a whole number. Write {NEAREST}{cell.text} "
+                             f"to take the nearest, {explain.figure(whole, kind, unit)}")
             value = Fraction(whole)
         if value > HIGHEST_FIELD:
-            self.mistake(cell.line, f"{cell.name} is {cell.text}: a field holds at most {HIGHEST_FIELD:,}{unit}"
-                         f"{allowed_words(column.field)}")
+            self.mistake(cell.line, f"{cell.name} is {cell.text}: a field holds "
+                         f"{explain.at_most(HIGHEST_FIELD, kind, unit)}{allowed_words(column.field, kind, unit)}")
             return 0
         return int(value)
 
@@ -312,7 +325,7 @@ class Maker:
         figures = {}
         for name in Header._fields:                 # dt and dx come first: other figures are counted in them
             figures[name] = self.figure(cells[name])
-            self.lines["header", 0, name] = cells[name].line
+            self.cells["header", 0, name] = cells[name]
             if name in ("dt", "dx"):
                 self.sizes[name] = figures[name]
         return Header(**figures)
@@ -341,7 +354,7 @@ class Maker:
                              "and 0 is written where there is none")
                 return found
             found.append({name: self.figure(whole[name]) for name in fields})
-            self.lines |= {(kind, number, name): whole[name].line for name in fields}
+            self.cells |= {(kind, number, name): whole[name] for name in fields}
         return found
 
     def make(self) -> Optional[bytes]:
@@ -360,32 +373,32 @@ class Maker:
         if fault.number == 3:
             section = next(section for section in explain.SECTIONS if section.record == fault.field)
             kind = fault.field.split()[0]
-            return min(line for (table, at, _), line in self.lines.items() if table == kind and at > section.most)
+            return min(cell.line for (table, at, _), cell in self.cells.items()
+                       if table == kind and at > section.most)
         if fault.number == 5:
-            return self.lines["header", 0, fault.field]
+            return self.cells["header", 0, fault.field].line
         if fault.number == 7:
-            return self.lines["reach", len(self.given.records["reach"]), "segments"]
+            return self.cells["reach", len(self.given.records["reach"]), "segments"].line
         kind, at = fault.place
         if kind == "segment":
             name = "D" if fault.number == 11 else "segments"
-            return self.lines["reach", explain.reach_of(found, at), name]
+            return self.cells["reach", explain.reach_of(found, at), name].line
         kind = {6: "reach", 8: "boundary", 9: "gauge"}[fault.number]
-        return self.lines[kind, at, fault.field]
+        return self.cells[kind, at, fault.field].line
+
+    def written(self) -> explain.Written:
+        """The unit of every field that was not written as the sheet holds it."""
+        found = {where: self.unit_of(cell) for where, cell in self.cells.items()}
+        return {where: unit for where, unit in found.items() if unit is not None}
 
 
-def shown(value: Fraction) -> str:
-    """A fraction as a decimal number, cut where it does not end soon."""
-    text = f"{float(value):.9g}"
-    return text if Fraction(text) == value else f"about {text}"
-
-
-def allowed_words(name: str) -> str:
+def allowed_words(name: str, kind: Quantity, unit: Optional[Unit]) -> str:
     """What document 01 allows of a field, where that does not depend on others."""
     ranges = model.REACH_RANGES | model.header_ranges(model.MOST_STEPS) | {"concentration": model.CONCENTRATION}
     kinds = REACH_KINDS | HEADER_KINDS | {"concentration": units.CONCENTRATION}
-    if name not in ranges or name == "interval":
+    if name == "interval" or kinds.get(name) is not kind:       # a row's start is no reach's start figure
         return ""
-    return f"; document 01 allows {explain.limits(ranges[name], kinds[name])}"
+    return f"; {explain.range_remedy(ranges[name], kind, unit)}"
 
 
 def write_sheet(header: Header, reaches: list[Reach], rows: list[Row], gauges: list[int]) -> bytes:
@@ -404,7 +417,7 @@ def make(text: str) -> Made:
     sheet = maker.make()
     if sheet is None:
         return Made(None, maker.mistakes, maker.rounded)
-    refused = explain.faults(sheet)
+    refused = explain.faults(sheet, maker.written())
     found = model.walk(model.Walk(sheet)) if refused and refused[0].number > 4 else None
     mistakes = [Mistake(maker.line_of(fault, found), f"{fault.fact}; {fault.remedy} (refused {fault.number})",
                         fault.number) for fault in refused]

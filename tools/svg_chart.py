@@ -1,4 +1,4 @@
-"""Line charts as SVG: panels one above the other, with axes, ticks, a legend and a limit line."""
+"""Line charts as SVG: panels one above the other, with axes, ticks, a legend, a limit line and bars below."""
 from __future__ import annotations
 
 import math
@@ -12,14 +12,25 @@ LEGEND_LINE = 19
 COLOURS = ("#0072b2", "#d55e00", "#009e73", "#cc79a7", "#e69f00", "#56b4e9", "#555555", "#8b4513")
 DASHES = ("", "7 3", "2 3", "9 3 2 3")                      # a new one after each round of colours
 LIMIT_COLOUR = "#c00000"
+BAR_ROW, BAR_HEIGHT, LEAST_BAR = 16, 8, 2
 TIME_STEPS = (0.1, 0.2, 0.25, 0.5, 1, 2, 3, 4, 6, 12, 24)
 
 
+class Bar(NamedTuple):
+    """A stretch of x that is marked for one curve, and what it says when it is pointed at."""
+
+    begin: float
+    end: float
+    words: str
+
+
 class Line(NamedTuple):
-    """One curve: its name in the legend, and its points."""
+    """One curve: its name in the legend, and its points; its bars, with a note behind them."""
 
     name: str
     points: list[tuple[float, float]]
+    bars: tuple[Bar, ...] = ()
+    bars_note: str = ""
 
 
 class Panel(NamedTuple):
@@ -32,6 +43,7 @@ class Panel(NamedTuple):
     lines: list[Line]
     limit: Optional[float] = None
     limit_name: str = ""
+    bars_name: str = ""                     # what the bars show; without it there are none
 
 
 def round_step(span: float, most: int) -> float:
@@ -58,11 +70,12 @@ def tick_text(value: float, step: float) -> str:
     return f"{value:.{places}f}"
 
 
-def tag(name: str, text: str = "", **attributes: object) -> str:
-    """An element; _ in an attribute's name stands for -."""
+def tag(name: str, text: str = "", inside: str = "", **attributes: object) -> str:
+    """An element around a text or around other elements; _ in an attribute's name stands for -."""
     parts = "".join(f" {key.replace('_', '-')}={quoteattr(str(value))}"
                     for key, value in attributes.items() if value != "")
-    return f"<{name}{parts}>{escape(text)}</{name}>" if text else f"<{name}{parts}/>"
+    content = escape(text) or inside
+    return f"<{name}{parts}>{content}</{name}>" if content else f"<{name}{parts}/>"
 
 
 class Frame:
@@ -121,11 +134,15 @@ def legend(frame: Frame, at: int, name: str, **look: object) -> Iterator[str]:
     yield tag("text", name, x=frame.right + 48, y=y + 4)
 
 
+def colour(at: int) -> str:
+    """The colour of a panel's curve, by its place."""
+    return COLOURS[at % len(COLOURS)]
+
+
 def curves(frame: Frame, panel: Panel) -> Iterator[str]:
     """Each curve and the limit, with their entries in the legend."""
     for at, line in enumerate(panel.lines):
-        look = dict(stroke=COLOURS[at % len(COLOURS)], stroke_width=1.8,
-                    stroke_dasharray=DASHES[at // len(COLOURS) % len(DASHES)])
+        look = dict(stroke=colour(at), stroke_width=1.8, stroke_dasharray=DASHES[at // len(COLOURS) % len(DASHES)])
         yield tag("path", d=path(frame, line.points), fill="none", stroke_linejoin="round", **look,
                   **{"class": "curve"})
         yield from legend(frame, at, line.name, **look)
@@ -134,6 +151,22 @@ def curves(frame: Frame, panel: Panel) -> Iterator[str]:
         y = f"{frame.y(panel.limit):.1f}"
         yield tag("path", d=f"M{frame.left} {y}H{frame.right}", fill="none", **look, **{"class": "limit"})
         yield from legend(frame, len(panel.lines), panel.limit_name, **look)
+
+
+def bars(frame: Frame, panel: Panel, top: float) -> Iterator[str]:
+    """A row for each curve, with its name, its bars and their note."""
+    yield tag("text", panel.bars_name, x=frame.left, y=top + BAR_ROW / 2, font_weight="bold")
+    for at, line in enumerate(panel.lines):
+        middle = top + BAR_ROW * (at + 1.5)
+        yield tag("text", line.name, x=frame.left - 9, y=middle + 4, font_size=10, text_anchor="end")
+        yield tag("line", x1=frame.left, y1=middle, x2=frame.right, y2=middle, stroke="#e4e4e4")
+        for bar in line.bars:
+            begin = frame.x(bar.begin)
+            yield tag("rect", inside=tag("title", bar.words), x=f"{begin:.1f}", y=middle - BAR_HEIGHT / 2,
+                      width=f"{max(frame.x(bar.end) - begin, LEAST_BAR):.1f}", height=BAR_HEIGHT, fill=colour(at),
+                      **{"class": "bar"})
+        if line.bars_note:
+            yield tag("text", line.bars_note, x=frame.right + 8, y=middle + 4)
 
 
 def picture(panels: list[Panel], hours: bool) -> str:
@@ -145,6 +178,9 @@ def picture(panels: list[Panel], hours: bool) -> str:
         frame = Frame(panel, top, height)
         body += [*axes(frame, panel, hours), *curves(frame, panel)]
         top = frame.bottom + BOTTOM
+        if panel.bars_name:
+            body += bars(frame, panel, top)
+            top += BAR_ROW * (len(panel.lines) + 1.5)
     head = (f'<svg xmlns="http://www.w3.org/2000/svg" width="{WIDTH}" height="{top:.0f}" '
             f'viewBox="0 0 {WIDTH} {top:.0f}" font-family="Helvetica, Arial, sans-serif" font-size="12" '
             'fill="#222222">')

@@ -5,6 +5,7 @@ ghost use Prim.Native.Nat.{min};
 ghost use lib.ListN.{set, getD};
 ghost use Rattle.model.specs.Sheet.{reachCount};
 ghost use Rattle.terms.specs.Says.{reachSays};
+ghost use Rattle.terms.specs.Lent.{entry, exit};
 ghost use Rattle.assembly.specs.Says.{loadSays};
 ghost use Rattle.records.specs.Records.{noReach, filled, fillCount};
 use assembly::Load;
@@ -13,17 +14,17 @@ use sheet::fields::reach_count;
 use terms::Reach;
 
 // Puts a record at place i, which counts from 0. Past the end of the list nothing is written.
-pub fn put(reaches: &mut [Reach], i: usize, entry: Reach)
-    ensures { λ _. ⌜ now (reaches .exit) ≡ set (now (reaches .entry)) i entry ⌝ }
+pub fn put(reaches: &mut [Reach], i: usize, value: Reach)
+    ensures { λ _. ⌜ exit reaches ≡ set (entry reaches) i value ⌝ }
 {
     if i < reaches.len() {
-        reaches[i] = entry;
+        reaches[i] = value;
     }
 }
 
 // The record at place i, which counts from 0. Past the end of the list it is a record of zeros.
 pub fn take(reaches: &[Reach], i: usize) -> Reach
-    ensures { λ r. ⌜ r ≡ getD (now (reaches .entry)) i noReach ⌝ }
+    ensures { λ r. ⌜ r ≡ getD (entry reaches) i noReach ⌝ }
 {
     if reaches.len() <= i {
         Reach {
@@ -57,7 +58,7 @@ fn least(a: usize, b: usize) -> usize
 
 // Fills the first `count` entries from the sheet, as far as the list reaches; the others stay.
 pub fn fill(reaches: &mut [Reach], sheet: &[u8], count: usize)
-    ensures { λ _. ⌜ map reachSays (now (reaches .exit)) ≡ filled (now (sheet .entry)) count (map reachSays (now (reaches .entry))) ⌝ }
+    ensures { λ _. ⌜ map reachSays (exit reaches) ≡ filled (entry sheet) count (map reachSays (entry reaches)) ⌝ }
 {
     let end = least(count, reaches.len());
     let mut i: usize = 0;
@@ -79,7 +80,7 @@ fn count_if(answer: Load, reaches: usize) -> usize
 
 // How many entries a loading with this answer fills.
 pub fn fill_count(answer: Load, sheet: &[u8]) -> usize
-    ensures { λ r. ⌜ r ≡ fillCount (loadSays answer) (reachCount (now (sheet .entry))) ⌝ }
+    ensures { λ r. ⌜ r ≡ fillCount (loadSays answer) (reachCount (entry sheet)) ⌝ }
 {
     count_if(answer, reach_count(sheet) as usize)
 }
