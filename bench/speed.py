@@ -23,14 +23,18 @@ ROOT = HERE.parent
 ALL_RATES = (1_200, 10_000, 5_000, 100_000, 200, 100, 5_000_000, 20_000, 30_000, 50_000, 40_000, 40_000, 70, 1_000_000, 2_000_000)
 
 
-def sheet(segments: int, steps: int, interval: int) -> bytes:
-    """One reach of 1 m segments with every rate, a pulse upstream, gauges at the quarters."""
-    reaches = [(segments, *ALL_RATES)]
-    rows = [(0, 3_000_000), (steps // 10, 100_000_000), (steps // 2, 3_000_000)]
-    gauges = sorted({max(1, segments * quarter // 4) for quarter in (1, 2, 3, 4)})
-    words = [2, 100, steps, interval, 50_000, len(reaches), *(field for reach in reaches for field in reach),
+def packed(steps: int, interval: int, lengths: list[int], rows: list[tuple[int, int]], gauges: list[int]) -> bytes:
+    """Reaches of so many 1 m segments each, with every rate."""
+    words = [2, 100, steps, interval, 50_000, len(lengths), *(field for length in lengths for field in (length, *ALL_RATES)),
              len(rows), *(field for row in rows for field in row), len(gauges), *gauges]
     return b"OTR1" + struct.pack(f"<{len(words)}I", *words)
+
+
+def sheet(segments: int, steps: int, interval: int) -> bytes:
+    """One reach, a pulse upstream, gauges at the quarters."""
+    rows = [(0, 3_000_000), (steps // 10, 100_000_000), (steps // 2, 3_000_000)]
+    gauges = sorted({max(1, segments * quarter // 4) for quarter in (1, 2, 3, 4)})
+    return packed(steps, interval, [segments], rows, gauges)
 
 
 def seconds(program: Path, given: bytes) -> tuple[float, bytes]:

@@ -10,10 +10,10 @@
  *   - what a call may write overlaps nothing else that the call is lent;
  *   - nobody else writes what is lent while the call runs.
  *
- * What every call does: what it hands out comes first among its parameters. It writes *number, *kind and *place. An accepted call has number 0, kind 0 and place 0. A refused call has the
- * refusal's number (enum yumbaqel_number) and its place: what kind it is (enum yumbaqel_kind) and which one, from 1; and it writes
- * nothing else, no list, no value. An accepted call writes the values named below and the first entries of the lists named below, one
- * for each segment (reach, row), and leaves what lies behind them.
+ * What every call does: what it hands out comes first among its parameters. It writes *number, *kind and *place. An accepted call has
+ * number 0, kind 0 and place 0. A refused call has the refusal's number (enum yumbaqel_number) and its place: what kind it is (enum
+ * yumbaqel_kind) and which one, from 1; and it writes nothing else, no list, no value. An accepted call writes the values named below
+ * and the first entries of the lists named below, one for each segment (reach, row), and leaves what lies behind them.
  *
  * The library keeps nothing between calls, allocates nothing, calls nothing of its caller's, and needs at most YUMBAQEL_STACK bytes of
  * stack. Calls on different lists may run at once.
@@ -28,6 +28,7 @@
 extern "C" {
 #endif
 
+#define YUMBAQEL_VERSION 10100           /* of this header, 1.1.0: major x 10,000 + minor x 100 + patch */
 #define YUMBAQEL_SCALE 1073741824        /* one whole, 2^30 */
 #define YUMBAQEL_HIGHEST 1000000000      /* the highest concentration, ng/L */
 #define YUMBAQEL_MOST_SEGMENTS 1024
@@ -100,8 +101,9 @@ struct yumbaqel_loaded {
     uint32_t gauges;
 };
 
-typedef char yumbaqel_reach_has_64_bytes[sizeof(struct yumbaqel_reach) == 64 ? 1 : -1];
-typedef char yumbaqel_loaded_has_28_bytes[sizeof(struct yumbaqel_loaded) == 28 ? 1 : -1];
+/* A length of -1 where the compiler lays them out otherwise than the library. */
+typedef char yumbaqel_reach_has_64_bytes[2 * (sizeof(struct yumbaqel_reach) == 64) - 1];
+typedef char yumbaqel_loaded_has_28_bytes[2 * (sizeof(struct yumbaqel_loaded) == 28) - 1];
 
 /*
  * A loading. Tests 1 to 13 on any bytes and any lists. Accepted, it writes *loaded, the first entries of the fourteen lists (the ten
@@ -190,6 +192,13 @@ void yumbaqel_rows(
 /* Gauge j of a sheet that a loading accepted: the number of its segment. j counts from 0. Nothing is tested or written. */
 uint32_t yumbaqel_gauge(const uint8_t *sheet, size_t sheet_length, size_t j);
 
+/* dt of a sheet in s, and dx in cm. Bytes past the sheet's end count as 0. Nothing is tested or written. */
+uint32_t yumbaqel_dt(const uint8_t *sheet, size_t sheet_length);
+uint32_t yumbaqel_dx(const uint8_t *sheet, size_t sheet_length);
+
+/* The library's own version. The header belongs to it where this is YUMBAQEL_VERSION. */
+uint32_t yumbaqel_version(void);
+
 /* ---- The same calls on one struct, for a caller who has no wish to hand over twenty lists by hand. */
 
 struct yumbaqel_list {
@@ -202,13 +211,17 @@ struct yumbaqel_wide_list {
     size_t length;
 };
 
-/* What the calls are lent: the lists of a loading, the state, the working lists; and what the loading handed out. */
+/* What the calls are lent: the lists of a loading, the state, the working lists, the sheet and its rows; and what a loading handed out. */
 struct yumbaqel_river {
     struct yumbaqel_list e, g, l, a, b, k, ks, h, m, s, cl, cb, kd, start;
     struct yumbaqel_list channel, storage, sediment;
     uint32_t upstream, done;
     struct yumbaqel_wide_list p, y;
     struct yumbaqel_loaded loaded;
+    const uint8_t *sheet;          /* as loaded; the caller keeps it as it is while rows, gauges, dt or dx are asked for */
+    size_t sheet_length;
+    struct yumbaqel_list starts, concentrations;
+    uint32_t rows;                 /* how many rows yumbaqel_river_rows has put into these two; 0 before */
 };
 
 struct yumbaqel_refusal {
@@ -220,29 +233,59 @@ struct yumbaqel_figures {
     uint64_t sediment;             /* Kd x W */
 };
 
-/* Entries that yumbaqel_river_lend divides, for lists of this many segments each. */
+/* Entries to lend: to a river of this many segments, to a copy of one, to either's working lists; and for this many boundary rows. */
 #define YUMBAQEL_WORDS(segments) (17 * (segments))
+#define YUMBAQEL_COPY_WORDS(segments) (3 * (segments))
 #define YUMBAQEL_WIDE_WORDS(segments) (2 * (segments))
+#define YUMBAQEL_ROW_WORDS(rows) (2 * (rows))
 
-/* Lends a river YUMBAQEL_WORDS(segments) and YUMBAQEL_WIDE_WORDS(segments) entries: room for that many segments. It is not loaded yet. */
-static inline void yumbaqel_river_lend(struct yumbaqel_river *river, size_t segments, uint32_t *words, uint64_t *wide_words)
+/* Divides words among lists of this length each. */
+static inline void yumbaqel_divide(struct yumbaqel_list *const *lists, size_t count, size_t length, uint32_t *words)
 {
-    struct yumbaqel_list *const lists[17] = {
-        &river->e, &river->g, &river->l, &river->a, &river->b, &river->k, &river->ks, &river->h, &river->m,
-        &river->s, &river->cl, &river->cb, &river->kd, &river->start, &river->channel, &river->storage, &river->sediment};
-    const struct yumbaqel_loaded none = {0, 0, 0, 0, 0, 0, 0};
     size_t i;
-    for (i = 0; i < 17; i++) {
-        lists[i]->at = words + i * segments;
-        lists[i]->length = segments;
+    for (i = 0; i < count; i++) {
+        lists[i]->at = words + i * length;
+        lists[i]->length = length;
     }
+}
+
+/* Lends a river lists for its state and its working lists: YUMBAQEL_COPY_WORDS(segments) and YUMBAQEL_WIDE_WORDS(segments) entries.
+   They hold no state yet. */
+static inline void yumbaqel_river_lend_state(struct yumbaqel_river *river, size_t segments, uint32_t *words, uint64_t *wide_words)
+{
+    struct yumbaqel_list *const lists[] = {&river->channel, &river->storage, &river->sediment};
+    yumbaqel_divide(lists, sizeof lists / sizeof *lists, segments, words);
+    river->upstream = 0;
+    river->done = 0;
     river->p.at = wide_words;
     river->p.length = segments;
     river->y.at = wide_words + segments;
     river->y.length = segments;
-    river->upstream = 0;
-    river->done = 0;
+}
+
+/* Lends a river YUMBAQEL_ROW_WORDS(rows) entries for the sheet's boundary rows. A river that is handed U from elsewhere needs none. */
+static inline void yumbaqel_river_lend_rows(struct yumbaqel_river *river, size_t rows, uint32_t *words)
+{
+    struct yumbaqel_list *const lists[] = {&river->starts, &river->concentrations};
+    yumbaqel_divide(lists, sizeof lists / sizeof *lists, rows, words);
+    river->rows = 0;
+}
+
+/* Lends a river YUMBAQEL_WORDS(segments) and YUMBAQEL_WIDE_WORDS(segments) entries: room for that many segments. It is not loaded yet,
+   and has no room for rows. */
+static inline void yumbaqel_river_lend(struct yumbaqel_river *river, size_t segments, uint32_t *words, uint64_t *wide_words)
+{
+    struct yumbaqel_list *const lists[] = {
+        &river->e, &river->g, &river->l, &river->a, &river->b, &river->k, &river->ks, &river->h, &river->m,
+        &river->s, &river->cl, &river->cb, &river->kd, &river->start};
+    const struct yumbaqel_loaded none = {0, 0, 0, 0, 0, 0, 0};
+    const size_t count = sizeof lists / sizeof *lists;
+    yumbaqel_divide(lists, count, segments, words);
+    yumbaqel_river_lend_state(river, segments, words + count * segments, wide_words);
+    yumbaqel_river_lend_rows(river, 0, words);
     river->loaded = none;
+    river->sheet = (const uint8_t *)words;      /* no byte of it: a pointer is never null */
+    river->sheet_length = 0;
 }
 
 /* The fourteen lists of a river as arguments. */
@@ -254,6 +297,7 @@ static inline void yumbaqel_river_lend(struct yumbaqel_river *river, size_t segm
 #define YUMBAQEL_FIGURES(r)                                                                                             \
     (r)->channel.at, (r)->channel.length, (r)->storage.at, (r)->storage.length, (r)->sediment.at, (r)->sediment.length
 
+/* A loading. The reach records are the caller's; the river keeps where the sheet is. Its rows are to be taken anew. */
 static inline struct yumbaqel_refusal yumbaqel_river_load(
     struct yumbaqel_river *river, const uint8_t *sheet, size_t sheet_length,
     struct yumbaqel_reach *reaches, size_t reaches_length)
@@ -261,7 +305,50 @@ static inline struct yumbaqel_refusal yumbaqel_river_load(
     struct yumbaqel_refusal told;
     yumbaqel_load(&told.number, &told.kind, &told.place, &river->loaded,
                   sheet, sheet_length, reaches, reaches_length, YUMBAQEL_LISTS(river));
+    if (told.number == YUMBAQEL_ACCEPTED) {
+        river->sheet = sheet;
+        river->sheet_length = sheet_length;
+        river->rows = 0;
+    }
     return told;
+}
+
+/* The boundary rows of the river's sheet into its two lists: 13 where these are too short. */
+static inline struct yumbaqel_refusal yumbaqel_river_rows(struct yumbaqel_river *river)
+{
+    struct yumbaqel_refusal told;
+    yumbaqel_rows(&told.number, &told.kind, &told.place, river->sheet, river->sheet_length,
+                  river->starts.at, river->starts.length, river->concentrations.at, river->concentrations.length);
+    if (told.number == YUMBAQEL_ACCEPTED)
+        river->rows = river->loaded.rows;
+    return told;
+}
+
+/* U at step j of the river's rows: 3 where they were not taken. Accepted, it writes *u. */
+static inline struct yumbaqel_refusal yumbaqel_river_upstream(const struct yumbaqel_river *river, uint32_t j, uint32_t *u)
+{
+    struct yumbaqel_refusal told;
+    yumbaqel_upstream(&told.number, &told.kind, &told.place, u, river->starts.at, river->rows,
+                      river->concentrations.at, river->rows, river->loaded.steps, j);
+    return told;
+}
+
+/* The segment of gauge j of the river's sheet, which counts from 0 to loaded.gauges - 1; of any other j 0, which is no segment. */
+static inline uint32_t yumbaqel_river_gauge(const struct yumbaqel_river *river, size_t j)
+{
+    return j < river->loaded.gauges ? yumbaqel_gauge(river->sheet, river->sheet_length, j) : 0;
+}
+
+/* dt of the river's sheet, in s; 0 of a river that is not loaded. */
+static inline uint32_t yumbaqel_river_dt(const struct yumbaqel_river *river)
+{
+    return yumbaqel_dt(river->sheet, river->sheet_length);
+}
+
+/* dx, in cm. */
+static inline uint32_t yumbaqel_river_dx(const struct yumbaqel_river *river)
+{
+    return yumbaqel_dx(river->sheet, river->sheet_length);
 }
 
 /* A start of the river as loaded. */
@@ -273,7 +360,7 @@ static inline struct yumbaqel_refusal yumbaqel_river_start(struct yumbaqel_river
     return told;
 }
 
-/* A step of the river as loaded, with the sheet's M. */
+/* A step of the river as loaded. M is loaded.steps: the sheet's, unless the caller puts another figure there. */
 static inline struct yumbaqel_refusal yumbaqel_river_step(struct yumbaqel_river *river, uint32_t u)
 {
     struct yumbaqel_refusal told;
@@ -283,6 +370,7 @@ static inline struct yumbaqel_refusal yumbaqel_river_step(struct yumbaqel_river 
     return told;
 }
 
+/* A report of a segment of the river, which counts from 1. */
 static inline struct yumbaqel_refusal yumbaqel_river_report(
     const struct yumbaqel_river *river, uint32_t segment, struct yumbaqel_figures *figures)
 {
@@ -290,6 +378,40 @@ static inline struct yumbaqel_refusal yumbaqel_river_report(
     yumbaqel_report(&told.number, &told.kind, &told.place, &figures->channel, &figures->storage, &figures->sediment,
                     river->loaded.segments, YUMBAQEL_LISTS(river), YUMBAQEL_FIGURES(river),
                     river->upstream, river->done, segment);
+    return told;
+}
+
+/* Makes a copy of a loaded river that shares the lists of its loading, its sheet and its rows, which steps only read, and has state and
+   working lists of its own: YUMBAQEL_COPY_WORDS(segments) and YUMBAQEL_WIDE_WORDS(segments) entries. It has no state yet. When the
+   river is loaded anew, its copies are to be made anew. */
+static inline void yumbaqel_river_lend_copy(
+    struct yumbaqel_river *copy, const struct yumbaqel_river *river, size_t segments, uint32_t *words, uint64_t *wide_words)
+{
+    *copy = *river;
+    yumbaqel_river_lend_state(copy, segments, words, wide_words);
+}
+
+/* Copies the state of a river, which is C, Z and W, U and the count of steps, into the lists of another that is loaded with as many
+   segments. Else, or where a list is shorter than the river or the river has no segment or over 1,024, it is refused 13 and writes
+   nothing. */
+static inline struct yumbaqel_refusal yumbaqel_river_copy_state(struct yumbaqel_river *to, const struct yumbaqel_river *from)
+{
+    struct yumbaqel_refusal told = {0, 0, 0};
+    const uint32_t n = from->loaded.segments;
+    uint32_t i;
+    if (n == 0 || n > YUMBAQEL_MOST_SEGMENTS || to->loaded.segments != n
+        || from->channel.length < n || from->storage.length < n || from->sediment.length < n
+        || to->channel.length < n || to->storage.length < n || to->sediment.length < n) {
+        told.number = YUMBAQEL_SHORT_LIST;
+        return told;
+    }
+    for (i = 0; i < n; i++) {
+        to->channel.at[i] = from->channel.at[i];
+        to->storage.at[i] = from->storage.at[i];
+        to->sediment.at[i] = from->sediment.at[i];
+    }
+    to->upstream = from->upstream;
+    to->done = from->done;
     return told;
 }
 

@@ -184,6 +184,17 @@ class Caller:
         self.tally.take("gauge", ACCEPTED)
         return found
 
+    def header_field(self, name: str) -> int:
+        """dt or dx of the sheet on the shelf."""
+        found = self.library.call(name, self.shelf.whole("sheet"))
+        at = len(model.MARK) + model.FIELD * model.Header._fields.index(name)
+        wanted = model.field_at(bytes(self.shelf.content["sheet"]), at)
+        if found != wanted:
+            raise Difference(f"{name} is {found}, not {wanted}")
+        self.shelf.compare(name)
+        self.tally.take(name, ACCEPTED)
+        return found
+
     def upstream(self, starts: list[int], concentrations: list[int], steps: int, j: int) -> Optional[int]:
         shelf = self.shelf
         shelf.add("starts", starts)

@@ -14,9 +14,13 @@ from typing import NamedTuple, Union
 from model import Reach, Segment
 
 ROOT = Path(__file__).parent.parent
+INCLUDE = f"-I{ROOT / 'include'}"
+STRICT = ("-pedantic", "-Wall", "-Wextra", "-Werror")
 COLUMNS = Segment._fields           # the fourteen lists, in the order of the calls
 FIGURES = ("C", "Z", "W")           # the state's lists
 WORKING = ("p", "y")
+CALLS = ("load", "start", "step", "report", "upstream", "rows")
+READINGS = ("gauge", "dt", "dx", "version")     # these have a result and no answer
 KINDS = {0: None, 1: "reach", 2: "segment", 3: "row"}
 TYPES = {1: "B", 4: "I", 8: "Q"}    # by the bytes of an entry
 GUARDS = 3                          # entries in front of a list and behind it
@@ -106,9 +110,10 @@ class Library:
 
     def __init__(self, path: str) -> None:
         self.loaded = ctypes.CDLL(path)
-        for name in ("load", "start", "step", "report", "upstream", "rows"):
+        for name in CALLS:
             self.function(name).restype = None
-        self.function("gauge").restype = ctypes.c_uint32
+        for name in READINGS:
+            self.function(name).restype = ctypes.c_uint32
 
     def function(self, name: str):
         return getattr(self.loaded, f"yumbaqel_{name}")

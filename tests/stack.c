@@ -22,7 +22,7 @@ static size_t length;
 static struct yumbaqel_reach reaches[YUMBAQEL_MOST_REACHES];
 static uint32_t words[YUMBAQEL_WORDS(YUMBAQEL_MOST_SEGMENTS)];
 static uint64_t wide_words[YUMBAQEL_WIDE_WORDS(YUMBAQEL_MOST_SEGMENTS)];
-static uint32_t starts[YUMBAQEL_MOST_ROWS], concentrations[YUMBAQEL_MOST_ROWS];
+static uint32_t row_words[YUMBAQEL_ROW_WORDS(YUMBAQEL_MOST_ROWS)];
 static struct yumbaqel_river river;
 static struct yumbaqel_refusal told;
 static struct yumbaqel_figures figures;
@@ -50,19 +50,32 @@ static void report(void)
 
 static void upstream(void)
 {
-    yumbaqel_upstream(&told.number, &told.kind, &told.place, &u, starts, river.loaded.rows,
-                      concentrations, river.loaded.rows, river.loaded.steps, river.done);
+    told = yumbaqel_river_upstream(&river, river.done, &u);
 }
 
 static void rows(void)
 {
-    yumbaqel_rows(&told.number, &told.kind, &told.place, sheet, length,
-                  starts, YUMBAQEL_MOST_ROWS, concentrations, YUMBAQEL_MOST_ROWS);
+    told = yumbaqel_river_rows(&river);
 }
 
 static void gauge(void)
 {
-    u = yumbaqel_gauge(sheet, length, 0);
+    u = yumbaqel_river_gauge(&river, 0);
+}
+
+static void dt(void)
+{
+    u = yumbaqel_river_dt(&river);
+}
+
+static void dx(void)
+{
+    u = yumbaqel_river_dx(&river);
+}
+
+static void version(void)
+{
+    u = yumbaqel_version();
 }
 
 static void body(void)
@@ -92,12 +105,16 @@ int main(void)
 {
     length = fread(sheet, 1, sizeof sheet, stdin);
     yumbaqel_river_lend(&river, YUMBAQEL_MOST_SEGMENTS, words, wide_words);
+    yumbaqel_river_lend_rows(&river, YUMBAQEL_MOST_ROWS, row_words);
     printf("stated %d\n", YUMBAQEL_STACK);
     measure("load", load);
     if (told.number != YUMBAQEL_ACCEPTED)
         return 0;
     measure("rows", rows);
     measure("gauge", gauge);
+    measure("dt", dt);
+    measure("dx", dx);
+    measure("version", version);
     measure("upstream", upstream);
     measure("start", start);
     measure("step", step);

@@ -4,8 +4,8 @@
 
 Loadings, starts, steps, reports and lookups of U, accepted and refused, are put to the library and to the
 model.  After each call every byte that was lent is compared, and the figures are held to the exact river fed the
-same calls: at most 6 x n, sediment 6 x n x Kd.  Then examples/gate.c is run, and the stack that the calls take is
-measured.
+same calls: at most 6 x n, sediment 6 x n x Kd.  Then the examples are run, power failures and all, and the stack
+that the calls take is measured.
 The exit status is 0 only when every group ran, showed every answer that it must and agreed.
 """
 from __future__ import annotations
@@ -19,15 +19,16 @@ import time
 from collections import Counter
 from collections.abc import Callable, Iterator
 from dataclasses import replace
-from itertools import chain, islice
+from itertools import chain, islice, product
 from pathlib import Path
 from typing import NamedTuple
 
 import exact
 import model
 import sheets
+import stack
 from calls import ACCEPTED, Answer, Caller, Difference, Run, Tally, row_count_at
-from library import COLUMNS, ROOT, BuildFault, Library, compiled, shared_object
+from library import CALLS, COLUMNS, INCLUDE, READINGS, ROOT, STRICT, BuildFault, Library, compiled, shared_object
 from model import HIGHEST, HIGHEST_KD, MOST_REACHES, MOST_ROWS, MOST_SEGMENTS, MOST_STEPS, Row
 from sheets import HIGHEST_FIELD
 
@@ -66,7 +67,7 @@ def any_lengths(rng: random.Random, sheet: bytes) -> tuple[list[int], int]:
 
 
 def loading(case: sheets.Case) -> Trial:
-    """One loading, then the rows and the gauges of the same bytes, accepted or not."""
+    """One loading, then the rows, the gauges, dt and dx of the same bytes, accepted or not."""
     def trial(library: Library, rng: random.Random, tally: Tally) -> None:
         caller = Caller(library, rng, tally)
         lengths, records = any_lengths(rng, case.sheet)
@@ -75,6 +76,8 @@ def loading(case: sheets.Case) -> Trial:
         caller.rows(*(max(0, count + rng.choice((0, 0, 0, 1, -1))) for _ in range(2)))
         for j in (0, rng.randrange(40), rng.choice((HIGHEST_FIELD, 2 ** 63, 2 ** 64 - 1))):
             caller.gauge(j)
+        caller.header_field("dt")
+        caller.header_field("dx")
     return trial
 
 
@@ -170,7 +173,8 @@ OWN_ANSWERS = {"load": {ACCEPTED}, "rows": {ACCEPTED}, "gauge": {ACCEPTED}, "ups
 
 GROUPS = (
     Group("loadings of every kind", lambda rng: map(loading, cases(rng)),
-          {"load": SHEET_ANSWERS, "rows": {ACCEPTED, (13, None)}, "gauge": {ACCEPTED}}),
+          {"load": SHEET_ANSWERS, "rows": {ACCEPTED, (13, None)}, "gauge": {ACCEPTED}, "dt": {ACCEPTED},
+           "dx": {ACCEPTED}}),
     Group("lookups of U", lambda rng: (lookup for _ in range(400)),
           {"upstream": {ACCEPTED, (3, None), (8, "row")}}),
     Group("the sheets' own rivers",
@@ -222,7 +226,7 @@ def run_group(library: Library, group: Group, seed: str, total: Tally) -> None:
         raise GivenUp(f"given up after {total.differences} differences")
 
 
-# The example, and the stack
+# The examples, and the stack
 
 
 def pulse() -> sheets.Draft:
@@ -232,66 +236,192 @@ def pulse() -> sheets.Draft:
     return replace(draft, rows=rows).with_header(M=60, interval=1)
 
 
+def longest() -> bytes:
+    """A sheet that is accepted and as long as a sheet can be."""
+    sheet = sheets.write(sheets.fullest(random.Random(1)))
+    if len(sheet) != sheets.LONGEST or model.answer(sheet) is not None:
+        raise RuntimeError("the longest sheet is not accepted")
+    return sheet
+
+
+def example_sheets() -> list[bytes]:
+    """Accepted and refused ones; the longest, and that one with a byte more and with many."""
+    good, fullest = sheets.write(pulse()), longest()
+    return [good, good[:-1], good + b"\0", sheets.write(pulse().with_reach(1, Kd=HIGHEST_KD + 1)),
+            sheets.write(pulse().with_reach(2, D=0)), fullest, fullest + b"\0", fullest + bytes(1_000)]
+
+
+def refused_line(refusal: model.Refusal) -> str:
+    place = " {} {}".format(*refusal.place) if refusal.place else ""
+    return f"refused {refusal.number}{place}\n"
+
+
 def gate_lines(sheet: bytes, gauge: int, limit: int) -> str:
     """What examples/gate.c prints, by the model."""
     lines, shut, done = [], False, 0
     try:
+        dt = model.read_sheet(sheet).header.dt
         for after in model.run(sheet):
             done = after.step
             if (model.figures_at(after.lists, after.state, after.gauges[gauge - 1])[0] > limit) != shut:
                 shut = not shut
-                lines.append(f"{'shut' if shut else 'open'} at step {done}")
-        lines.append(f"done {done}")
+                lines.append(f"{'shut' if shut else 'open'} at step {done}, after {done * dt} s\n")
     except model.Refusal as refusal:
-        place = " {} {}".format(*refusal.place) if refusal.place else ""
-        lines = [f"refused {refusal.number}{place}"]
-    return "".join(line + "\n" for line in lines)
+        return refused_line(refusal)
+    return "".join((*lines, f"done {done}\n"))
+
+
+def copied(state: model.State) -> model.State:
+    return replace(state, C=list(state.C), Z=list(state.Z), W=list(state.W))
+
+
+def ahead_lines(sheet: bytes, gauge: int, limit: int, most: int) -> str:
+    """What examples/ahead.c prints, by the model: a copy of the state runs on with U as it is."""
+    try:
+        found = model.read_sheet(sheet)
+        river = model.river_of(found)
+    except model.Refusal as refusal:
+        return refused_line(refusal)
+    n, at = len(river), found.gauges[gauge - 1] - 1
+    lists = model.Lists(n)
+    lists.fill(river)
+    starts, concentrations = (list(each) for each in zip(*found.rows))
+    begun = model.State.of_length(n)
+    model.start(lists, n, begun, model.upstream(starts, concentrations, found.header.M, 0))
+    lines = []
+    for state in chain((begun,), (after.state for after in model.run(sheet))):
+        if state.count % found.header.interval:
+            continue
+        copy = copied(state)
+        while copy.C[at] <= limit and copy.count - state.count < most and copy.count < MOST_STEPS:
+            model.step(lists, n, copy, [0] * n, [0] * n, copy.U, MOST_STEPS)
+        taken = copy.count - state.count
+        if copy.C[at] > limit:
+            lines.append(f"step {state.count}: above in {taken} steps, {taken * found.header.dt} s\n")
+        else:
+            lines.append(f"step {state.count}: not above in {taken} steps\n")
+    return "".join((*lines, f"done {found.header.M}\n"))
+
+
+class Example:
+    """One of examples/*.c, built as C99 with no warning, and what is to be said of it."""
+
+    def __init__(self, name: str, archive: str, folder: Path) -> None:
+        self.name = name
+        self.sheet = folder / "sheet"
+        self.path = compiled(folder / name, "-std=c99", *STRICT, INCLUDE,
+                             str(ROOT / "examples" / f"{name}.c"), archive)
+        self.runs = self.faults = 0
+
+    def run(self, sheet: bytes, *words: object, piped: bool = False) -> str:
+        """What it prints for a sheet, from a file or from a pipe."""
+        self.sheet.write_bytes(sheet)
+        self.runs += 1
+        return subprocess.run([self.path, "-" if piped else str(self.sheet), *map(str, words)],
+                              input=sheet if piped else b"", capture_output=True, timeout=60).stdout.decode()
+
+    def hold(self, holds: bool, what: str) -> None:
+        if not holds:
+            self.faults += 1
+            if self.faults <= MOST_SHOWN:
+                say(f"  {self.name}: {what}")
+
+    def compare(self, found: str, wanted: str, what: str) -> None:
+        self.hold(found == wanted, f"{what}: {found[-200:]!r}, not {wanted[-200:]!r}")
+
+    def close(self, total: Tally) -> None:
+        total.differences += self.faults
+        say(f"examples/{self.name}.c: {self.runs} runs, {self.faults} differences")
 
 
 def run_gate(archive: str, folder: Path, total: Tally) -> None:
-    """The example, built as C99 with no warning: it prints what the model says, from a file and from a pipe."""
-    path = compiled(folder / "gate", "-std=c99", "-pedantic", "-Wall", "-Wextra", "-Werror",
-                    f"-I{ROOT / 'include'}", str(ROOT / "examples" / "gate.c"), archive)
-    moved = refused = faults = count = 0
-    good = sheets.write(pulse())
-    for sheet in (good, good[:-1], good + b"\0", sheets.write(pulse().with_reach(1, Kd=HIGHEST_KD + 1)),
-                  sheets.write(pulse().with_reach(2, D=0)), sheets.write(sheets.fullest(random.Random(1)))):
-        for gauge in (1, 2, 3):
-            for limit in (2_000, 100_000, 880_000, HIGHEST):
-                wanted = gate_lines(sheet, gauge, limit)
-                (folder / "sheet").write_bytes(sheet)
-                for name, fed in ((str(folder / "sheet"), b""), ("-", sheet)):
-                    run = subprocess.run([path, name, str(gauge), str(limit)], input=fed, capture_output=True,
-                                         timeout=60)
-                    count += 1
-                    if run.stdout.decode() != wanted:
-                        faults += 1
-                        if faults <= MOST_SHOWN:
-                            say(f"  gate {gauge} {limit}: {run.stdout!r}, not {wanted!r}")
-                moved += "shut" in wanted and "open" in wanted
-                refused += "refused" in wanted
-    if not moved or not refused:
-        faults += 1
-        say("  the example shows too little")
-    total.differences += faults
-    say(f"examples/gate.c: {count} runs, {faults} differences")
+    """It prints what the model says, from a file and from a pipe."""
+    gate = Example("gate", archive, folder)
+    seen = set()
+    for sheet, gauge, limit in chain(product(example_sheets()[:5], (1, 2, 3), (2_000, 100_000, 880_000, HIGHEST)),
+                                     product(example_sheets()[5:], (1, 3), (HIGHEST // 2,))):
+        wanted = gate_lines(sheet, gauge, limit)
+        for piped in (False, True):
+            gate.compare(gate.run(sheet, gauge, limit, piped=piped), wanted, f"gauge {gauge}, limit {limit}")
+        seen |= {word for word in ("shut", "open", "refused 4\n", "refused 6 reach 2\n") if word in wanted}
+    for gauge in (0, 4):
+        gate.compare(gate.run(sheets.write(pulse()), gauge, 1), "", f"gauge {gauge}, which there is not")
+    gate.hold(len(seen) == 4, f"shows too little: {seen}")
+    gate.close(total)
+
+
+def run_ahead(archive: str, folder: Path, total: Tally) -> None:
+    """It prints what the model says: the copy runs on, past the sheet's M too and up to 100,000; the river stays."""
+    ahead = Example("ahead", archive, folder)
+    seen = set()
+    tried = [*product(example_sheets()[:5], (1, 3), (2_000, 100_000), (20,)),
+             *product(example_sheets()[5:], (2,), (HIGHEST // 2,), (0, 3)),
+             (sheets.write(sheets.brook(dt=1, Q=500, U=7, M=1)), 1, HIGHEST, 2 * MOST_STEPS)]
+    for sheet, gauge, limit, most in tried:
+        wanted = ahead_lines(sheet, gauge, limit, most)
+        ahead.compare(ahead.run(sheet, gauge, limit, most), wanted, f"gauge {gauge}, limit {limit}, {most} steps")
+        seen |= {word for word in (": above", ": not above", f"not above in {MOST_STEPS - 1} steps", "refused 4\n")
+                 if word in wanted}
+    ahead.hold(len(seen) == 4, f"shows too little: {seen}")
+    ahead.close(total)
+
+
+def run_reset(archive: str, folder: Path, total: Tally) -> None:
+    """Power fails at every word that is written: the listing goes on from the last state that was whole."""
+    reset = Example("reset", archive, folder)
+    memory = folder / "memory"
+
+    def listed(sheet: bytes, *words: int, keep: bool = False) -> str:
+        if not keep:
+            memory.unlink(missing_ok=True)
+        return reset.run(sheet, memory, *words)
+
+    for sheet in example_sheets():
+        refusal = model.answer(sheet)
+        wanted = refused_line(refusal) if refusal else model.listing(sheet).decode()
+        reset.compare(listed(sheet), wanted, "without a failure")
+
+    draft = sheets.plain().with_header(interval=1)
+    sheet, words = sheets.write(draft), 3 + 3 * draft.segments + 1
+    whole = model.listing(sheet).decode()
+    lines, gauges, writes = whole.splitlines(keepends=True), len(draft.gauges), words * (draft.header.M + 1)
+
+    def hold_rest(kept: int, what: str) -> None:
+        """After so many words the listing goes on at the step that was whole last."""
+        made = kept // words - 1            # the step whose state is whole; none before the start's
+        rest = "".join(lines if made < 0 else lines[1 + gauges * max(made - 1, 0):])
+        reset.compare(listed(sheet, keep=True), rest, what)
+
+    for cut in range(writes + 1):
+        found = listed(sheet, cut)
+        shown = lines[:1 + gauges * (cut // words - 1)] if cut >= words else []
+        reset.compare(found, "".join(shown) if cut < writes else whole, f"power fails after {cut} words")
+        hold_rest(cut, f"power failed after {cut} words")
+    for cut, again in product(range(words, writes, 17), range(0, 2 * words, 7)):
+        listed(sheet, cut)
+        left = writes - cut // words * words
+        listed(sheet, min(again, left), keep=True)
+        hold_rest(cut // words * words + min(again, left), f"power failed after {cut} words and then {again}")
+
+    # a copy that was damaged or is another river's does not stand
+    listed(sheet)
+    image, newer = memory.read_bytes(), draft.header.M + 1
+    for at in range(words):
+        damaged = bytearray(image)
+        damaged[newer % 2 * (len(image) // 2) + model.FIELD * at] ^= 1
+        memory.write_bytes(damaged)
+        hold_rest((newer - 1) * words, f"word {at} of the newer copy damaged")
+    memory.write_bytes(image)
+    other = sheets.write(draft.with_reach(0, CL=501))
+    reset.compare(listed(other, keep=True), model.listing(other).decode(), "the memory of another river")
+    reset.close(total)
 
 
 def run_stack(archive: str, folder: Path, total: Tally) -> None:
     """The stack that each call takes, on a painted stack; the header's figure is at least that."""
-    path = compiled(folder / "stack", "-O1", "-std=gnu99", "-Wall", "-Wextra", "-Werror",
-                    f"-I{ROOT / 'include'}", str(ROOT / "tests" / "stack.c"), archive)
-    rng = random.Random(1)
-    found: dict[str, int] = {}
-    for sheet in (sheets.write(sheets.fullest(rng)), sheets.write(pulse()),
-                  *(each.sheet for each in chain(sheets.large_rivers(rng, 1), sheets.faulty_pairs()))):
-        run = subprocess.run([path], input=sheet, capture_output=True, timeout=60)
-        for line in run.stdout.decode().splitlines():
-            name, used = line.split()
-            found[name] = max(found.get(name, 0), int(used))
+    found = stack.measured(archive, folder)
     stated = found.pop("stated", 0)
-    wanted = {"load", "start", "step", "report", "upstream", "rows", "gauge"}
-    faults = int(set(found) != wanted) + sum(used > stated for used in found.values())
+    faults = int(set(found) != {*CALLS, *READINGS}) + sum(used > stated for used in found.values())
     total.differences += faults
     say(f"stack: {', '.join(f'{name} {used}' for name, used in sorted(found.items()))} bytes, {stated} stated, "
         f"{faults} differences")
@@ -312,6 +442,8 @@ def run_all(asked: argparse.Namespace, folder: Path, total: Tally) -> None:
     for group in GROUPS:
         run_group(library, group, str(asked.seed), total)
     run_gate(asked.archive, folder, total)
+    run_ahead(asked.archive, folder, total)
+    run_reset(asked.archive, folder, total)
     run_stack(asked.archive, folder, total)
     number = 1
     while asked.long and time.monotonic() < end:

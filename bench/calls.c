@@ -1,0 +1,85 @@
+/* The time of each call of the library on a river: a sheet on standard input, the best time of each call in ns on standard output. */
+#define _POSIX_C_SOURCE 199309L
+#include <stdio.h>
+#include <stdlib.h>
+#include <time.h>
+
+#include "yumbaqel.h"
+
+static uint8_t sheet[YUMBAQEL_LONGEST_SHEET];
+static size_t length;
+static struct yumbaqel_reach reaches[YUMBAQEL_MOST_REACHES];
+static uint32_t words[YUMBAQEL_WORDS(YUMBAQEL_MOST_SEGMENTS)], copy_words[YUMBAQEL_COPY_WORDS(YUMBAQEL_MOST_SEGMENTS)];
+static uint64_t wide_words[YUMBAQEL_WIDE_WORDS(YUMBAQEL_MOST_SEGMENTS)], copy_wide_words[YUMBAQEL_WIDE_WORDS(YUMBAQEL_MOST_SEGMENTS)];
+static uint32_t row_words[YUMBAQEL_ROW_WORDS(YUMBAQEL_MOST_ROWS)];
+static struct yumbaqel_river river, copy;
+static struct yumbaqel_refusal told;
+static struct yumbaqel_figures figures;
+static uint32_t u;
+static volatile uint32_t found;
+
+static void load(void) { told = yumbaqel_river_load(&river, sheet, length, reaches, YUMBAQEL_MOST_REACHES); }
+static void rows(void) { told = yumbaqel_river_rows(&river); }
+static void upstream(void) { told = yumbaqel_river_upstream(&river, river.loaded.steps, &u); }
+static void start(void) { told = yumbaqel_river_start(&river, u); }
+static void report(void) { told = yumbaqel_river_report(&river, river.loaded.segments, &figures); }
+static void copy_state(void) { told = yumbaqel_river_copy_state(&copy, &river); }
+static void gauge(void) { found = yumbaqel_river_gauge(&river, river.loaded.gauges - 1); }
+static void dt(void) { found = yumbaqel_river_dt(&river); }
+static void dx(void) { found = yumbaqel_river_dx(&river); }
+static void version(void) { found = yumbaqel_version(); }
+
+static void step(void)
+{
+    river.done = 0;                /* so that M is never reached */
+    told = yumbaqel_river_step(&river, u);
+}
+
+static double seconds(void)
+{
+    struct timespec now;
+    clock_gettime(CLOCK_MONOTONIC, &now);
+    return (double)now.tv_sec + 1e-9 * (double)now.tv_nsec;
+}
+
+/* The best of many rounds, each of so many calls that the clock's own time is of no matter; some 0.2 s in all. */
+static void print_time(const char *name, void (*call)(void))
+{
+    double begun = seconds(), best = 1e9, took;
+    const double end = begun + 0.2;
+    long calls, i;
+    call();
+    calls = 1 + (long)(2e-5 / (seconds() - begun));
+    while (seconds() < end) {
+        begun = seconds();
+        for (i = 0; i < calls; i++)
+            call();
+        took = (seconds() - begun) / (double)calls;
+        best = took < best ? took : best;
+    }
+    if (told.number != YUMBAQEL_ACCEPTED) {
+        fprintf(stderr, "calls: %s is refused %u\n", name, (unsigned)told.number);
+        exit(1);
+    }
+    printf("%s %.1f\n", name, 1e9 * best);
+}
+
+int main(void)
+{
+    length = fread(sheet, 1, sizeof sheet, stdin);
+    yumbaqel_river_lend(&river, YUMBAQEL_MOST_SEGMENTS, words, wide_words);
+    yumbaqel_river_lend_rows(&river, YUMBAQEL_MOST_ROWS, row_words);
+    print_time("load", load);
+    print_time("rows", rows);
+    print_time("upstream", upstream);
+    print_time("start", start);
+    print_time("step", step);
+    print_time("report", report);
+    yumbaqel_river_lend_copy(&copy, &river, YUMBAQEL_MOST_SEGMENTS, copy_words, copy_wide_words);
+    print_time("copy_state", copy_state);
+    print_time("gauge", gauge);
+    print_time("dt", dt);
+    print_time("dx", dx);
+    print_time("version", version);
+    return 0;
+}

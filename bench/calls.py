@@ -1,0 +1,69 @@
+"""Times each call of the library, and prints how the time grows with the river.
+
+    python3 bench/calls.py [--archive target/staticlib/libyumbaqel.a] [--runs 5]
+
+bench/calls.c makes the calls; the best of all runs counts. The first column is the largest river: 1,024 segments, 64 reaches, 256 rows,
+32 gauges. The others are what one segment, reach, row or gauge more adds, each measured from a small river to that many.
+"""
+from __future__ import annotations
+
+import argparse
+import subprocess
+import tempfile
+from pathlib import Path
+from typing import NamedTuple
+
+from speed import ROOT, compiled, packed
+
+
+class Size(NamedTuple):
+    segments: int = 32
+    reaches: int = 1
+    rows: int = 1
+    gauges: int = 1
+
+
+LARGEST = Size(1024, 64, 256, 32)
+SMALL = Size()
+GROWN = {"segment": SMALL._replace(segments=1024), "reach": SMALL._replace(reaches=32), "row": SMALL._replace(rows=256),
+         "gauge": SMALL._replace(gauges=32)}
+
+
+def sheet(size: Size) -> bytes:
+    """A river of this size with every rate at work."""
+    each, over = divmod(size.segments, size.reaches)
+    lengths = [each + (at < over) for at in range(size.reaches)]
+    return packed(1_000, 1_000, lengths, [(at, 1_000 * at) for at in range(size.rows)], list(range(1, size.gauges + 1)))
+
+
+def timed(program: Path, size: Size, runs: int) -> dict[str, float]:
+    """The best time of each call, in ns."""
+    best: dict[str, float] = {}
+    for _ in range(runs):
+        ran = subprocess.run([program], input=sheet(size), stdout=subprocess.PIPE, check=True)
+        for line in ran.stdout.decode().splitlines():
+            name, took = line.split()
+            best[name] = min(best.get(name, float("inf")), float(took))
+    return best
+
+
+def main() -> None:
+    words = argparse.ArgumentParser(description=__doc__.splitlines()[0])
+    words.add_argument("--archive", type=Path, default=ROOT / "target/staticlib/libyumbaqel.a")
+    words.add_argument("--runs", type=int, default=5)
+    given = words.parse_args()
+    with tempfile.TemporaryDirectory() as name:
+        program = compiled(Path(name), "calls.c", str(given.archive))
+        largest, small = timed(program, LARGEST, given.runs), timed(program, SMALL, given.runs)
+        grown = {what: timed(program, size, given.runs) for what, size in GROWN.items()}
+    print(f"{'ns':<12}{'largest':>12}{'small':>10}" + "".join(f"{'per ' + what:>14}" for what in GROWN))
+    for call, took in largest.items():
+        line = f"{call:<12}{took:>12,.0f}{small[call]:>10,.0f}"
+        for what, size in GROWN.items():
+            more = max(here - there for here, there in zip(size, SMALL))
+            line += f"{(grown[what][call] - small[call]) / more:>14.1f}"
+        print(line)
+
+
+if __name__ == "__main__":
+    main()

@@ -1,0 +1,350 @@
+/*
+ * What a header says and does, on standard output: every constant, macro, enum number and field (offset and size), and then every helper
+ * on rivers, by the commands on standard input. test_header.py compiles it against the header under test.
+ *
+ *     header SHEET OTHER_SHEET < COMMANDS
+ *
+ * After each command both rivers are printed whole, by the names of their fields. The library is behind a recorder, which prints the
+ * lengths and figures that each call was handed, or, with `marks`, answers by itself. With NAMES defined the rivers are left out.
+ */
+#include <stddef.h>
+#include <stdio.h>
+#include <stdlib.h>
+#include <string.h>
+
+#include "yumbaqel.h"
+
+#define SIZE(array) (sizeof(array) / sizeof *(array))
+#define UNSIGNED(figure) ((unsigned long long)(figure))
+
+/* ---- Names and layout. The tables are complete, as test_header.py sees to. */
+
+#define CONSTANTS(X) \
+    X(YUMBAQEL_VERSION) X(YUMBAQEL_SCALE) X(YUMBAQEL_HIGHEST) X(YUMBAQEL_MOST_SEGMENTS) X(YUMBAQEL_MOST_STEPS) \
+    X(YUMBAQEL_MOST_REACHES) X(YUMBAQEL_MOST_ROWS) X(YUMBAQEL_MOST_GAUGES) X(YUMBAQEL_LONGEST_SHEET) X(YUMBAQEL_STACK)
+#define ENUMS(X) \
+    X(YUMBAQEL_ACCEPTED) X(YUMBAQEL_MARK) X(YUMBAQEL_SHORT_SHEET) X(YUMBAQEL_COUNT) X(YUMBAQEL_LONG_SHEET) X(YUMBAQEL_HEADER) \
+    X(YUMBAQEL_REACH_FIELD) X(YUMBAQEL_SEGMENTS) X(YUMBAQEL_BOUNDARY_ROW) X(YUMBAQEL_GAUGE) X(YUMBAQEL_FLOW) X(YUMBAQEL_FACE) \
+    X(YUMBAQEL_SUM) X(YUMBAQEL_SHORT_LIST) X(YUMBAQEL_FIGURE) X(YUMBAQEL_STEPS_DONE) \
+    X(YUMBAQEL_NOTHING) X(YUMBAQEL_REACH) X(YUMBAQEL_SEGMENT) X(YUMBAQEL_ROW)
+#define MACROS(X) X(YUMBAQEL_WORDS) X(YUMBAQEL_COPY_WORDS) X(YUMBAQEL_WIDE_WORDS) X(YUMBAQEL_ROW_WORDS)
+#define CHECKS(X) X(yumbaqel_reach_has_64_bytes) X(yumbaqel_loaded_has_28_bytes)
+#define STRUCTS(X) \
+    X(yumbaqel_reach) X(yumbaqel_loaded) X(yumbaqel_list) X(yumbaqel_wide_list) X(yumbaqel_river) X(yumbaqel_refusal) X(yumbaqel_figures)
+
+#define LISTS(X, of) \
+    X(of, e) X(of, g) X(of, l) X(of, a) X(of, b) X(of, k) X(of, ks) X(of, h) X(of, m) X(of, s) X(of, cl) X(of, cb) X(of, kd) X(of, start) \
+    X(of, channel) X(of, storage) X(of, sediment) X(of, starts) X(of, concentrations)
+#define FIELDS(X) \
+    X(yumbaqel_reach, segments) X(yumbaqel_reach, dispersion) X(yumbaqel_reach, area) X(yumbaqel_reach, area2) \
+    X(yumbaqel_reach, alpha) X(yumbaqel_reach, qin) X(yumbaqel_reach, qout) X(yumbaqel_reach, cl) X(yumbaqel_reach, lambda) \
+    X(yumbaqel_reach, lambda2) X(yumbaqel_reach, lamhat) X(yumbaqel_reach, lamhat2) X(yumbaqel_reach, rho) X(yumbaqel_reach, kd) \
+    X(yumbaqel_reach, cb) X(yumbaqel_reach, start) \
+    X(yumbaqel_loaded, steps) X(yumbaqel_loaded, interval) X(yumbaqel_loaded, segments) X(yumbaqel_loaded, rows_at) \
+    X(yumbaqel_loaded, rows) X(yumbaqel_loaded, gauges_at) X(yumbaqel_loaded, gauges) \
+    X(yumbaqel_list, at) X(yumbaqel_list, length) X(yumbaqel_wide_list, at) X(yumbaqel_wide_list, length) \
+    LISTS(X, yumbaqel_river) X(yumbaqel_river, p) X(yumbaqel_river, y) X(yumbaqel_river, upstream) X(yumbaqel_river, done) \
+    X(yumbaqel_river, loaded) X(yumbaqel_river, sheet) X(yumbaqel_river, sheet_length) X(yumbaqel_river, rows) \
+    X(yumbaqel_refusal, number) X(yumbaqel_refusal, kind) X(yumbaqel_refusal, place) \
+    X(yumbaqel_figures, channel) X(yumbaqel_figures, storage) X(yumbaqel_figures, sediment)
+
+#define NUMBER(name) {"number " #name, UNSIGNED(name)},
+#define MACRO(name) {"macro " #name, UNSIGNED(name(1 + 2))},
+#define CHECK(name) {"type " #name, sizeof(name)},
+#define STRUCT(name) {"struct " #name, sizeof(struct name)},
+#define FIELD(structure, name) {#structure, #name, offsetof(struct structure, name), sizeof(((struct structure *)NULL)->name)},
+
+static const struct {
+    const char *name;
+    unsigned long long figure;
+} numbers[] = {CONSTANTS(NUMBER) ENUMS(NUMBER) MACROS(MACRO) CHECKS(CHECK) STRUCTS(STRUCT)};
+
+static const struct field {
+    const char *structure, *name;
+    size_t offset, size;
+} fields[] = {FIELDS(FIELD)};
+
+static void print_names(void)
+{
+    size_t i;
+    for (i = 0; i < SIZE(numbers); i++)
+        printf("%s %llu\n", numbers[i].name, numbers[i].figure);
+    for (i = 0; i < SIZE(fields); i++)
+        printf("field %s %s %llu %llu\n", fields[i].structure, fields[i].name, UNSIGNED(fields[i].offset), UNSIGNED(fields[i].size));
+}
+
+#ifdef NAMES
+
+int main(void)
+{
+    print_names();
+    return 0;
+}
+
+#else
+
+/* The fields of a struct of numbers, by their names. */
+static void print_struct(const char *what, const char *structure, const void *at)
+{
+    uint32_t figure;
+    uint64_t wide;
+    size_t i;
+    printf(" %s", what);
+    for (i = 0; i < SIZE(fields); i++) {
+        if (strcmp(fields[i].structure, structure) != 0)
+            continue;
+        memcpy(&figure, (const char *)at + fields[i].offset, sizeof figure);
+        wide = figure;
+        if (fields[i].size == sizeof wide)
+            memcpy(&wide, (const char *)at + fields[i].offset, sizeof wide);
+        printf(" %s %llu", fields[i].name, UNSIGNED(wide));
+    }
+    printf("\n");
+}
+
+/* ---- Rivers, and the memory that they are lent. Every entry has a figure of its own before. */
+
+#define SHOWN 7                    /* entries of a list that are printed: more than the river has segments */
+#define ROOM 1100                  /* entries of a list: more than a river may have */
+#define ROW_ROOM 16
+
+static uint8_t sheets[2][YUMBAQEL_LONGEST_SHEET + 1];
+static size_t lengths[2];
+static struct yumbaqel_reach reaches[3];
+static uint32_t words[17 * ROOM], copy_words[3 * ROOM], row_words[2 * ROW_ROOM];
+static uint64_t wide_words[2 * ROOM], copy_wide_words[2 * ROOM];
+static struct yumbaqel_river rivers[2];
+static int lent[2];
+
+static const struct {
+    const char *name;
+    void *at;
+    size_t count, size;
+} memories[] = {
+    {"words", words, SIZE(words), sizeof *words}, {"copy_words", copy_words, SIZE(copy_words), sizeof *copy_words},
+    {"row_words", row_words, SIZE(row_words), sizeof *row_words}, {"wide_words", wide_words, SIZE(wide_words), sizeof *wide_words},
+    {"copy_wide_words", copy_wide_words, SIZE(copy_wide_words), sizeof *copy_wide_words},
+    {"sheet", sheets, SIZE(sheets), sizeof *sheets}};
+
+static void fill(void)
+{
+    uint32_t i, j;
+    memset(rivers, 0xA5, sizeof rivers);
+    memset(reaches, 0xA5, sizeof reaches);
+    for (i = 0; i < SIZE(memories); i++)
+        for (j = 0; j < memories[i].count; j++)
+            if (memories[i].size == sizeof(uint32_t))
+                ((uint32_t *)memories[i].at)[j] = 1000000 * (i + 1) + j;
+            else if (memories[i].size == sizeof(uint64_t))
+                ((uint64_t *)memories[i].at)[j] = 1000000 * (i + 1) + j;
+}
+
+/* Where an address lies: the memory's name and the entry. */
+static void print_place(const void *at)
+{
+    uintptr_t offset;
+    size_t i;
+    for (i = 0; i < SIZE(memories); i++) {
+        offset = (uintptr_t)at - (uintptr_t)memories[i].at;
+        if (offset < memories[i].count * memories[i].size && offset % memories[i].size == 0) {
+            printf(" %s %llu", memories[i].name, UNSIGNED(offset / memories[i].size));
+            return;
+        }
+    }
+    printf(" ?");
+}
+
+static void print_list(const char *name, const struct yumbaqel_list *list)
+{
+    size_t i;
+    printf(" %s", name);
+    print_place(list->at);
+    printf(" %llu:", UNSIGNED(list->length));
+    for (i = 0; i < SHOWN && i < list->length; i++)
+        printf(" %llu", UNSIGNED(list->at[i]));
+    printf("\n");
+}
+
+static void print_wide_list(const char *name, const struct yumbaqel_wide_list *list)
+{
+    size_t i;
+    printf(" %s", name);
+    print_place(list->at);
+    printf(" %llu:", UNSIGNED(list->length));
+    for (i = 0; i < SHOWN && i < list->length; i++)
+        printf(" %llu", UNSIGNED(list->at[i]));
+    printf("\n");
+}
+
+static const struct field lists[] = {LISTS(FIELD, yumbaqel_river)};
+
+static struct yumbaqel_list *list_of(struct yumbaqel_river *river, const struct field *field)
+{
+    return (struct yumbaqel_list *)(void *)((char *)river + field->offset);
+}
+
+static void print_river(struct yumbaqel_river *river)
+{
+    size_t i;
+    for (i = 0; i < SIZE(lists); i++)
+        print_list(lists[i].name, list_of(river, &lists[i]));
+    print_wide_list("p", &river->p);
+    print_wide_list("y", &river->y);
+    printf(" upstream %llu done %llu rows %llu sheet", UNSIGNED(river->upstream), UNSIGNED(river->done), UNSIGNED(river->rows));
+    print_place(river->sheet);
+    printf(" length %llu\n", UNSIGNED(river->sheet_length));
+    print_struct("loaded", "yumbaqel_loaded", &river->loaded);
+}
+
+static void print_told(struct yumbaqel_refusal told)
+{
+    print_struct("told", "yumbaqel_refusal", &told);
+}
+
+#ifdef __cplusplus
+extern "C"
+#endif
+int recorder_marks;                /* the recorder's: number, kind and place are marks, and no call reaches the library */
+
+/* ---- The commands: a name, a river (0 or 1), the name of a field, and two figures. */
+
+#define IS(what) (strcmp(name, what) == 0)
+
+static struct yumbaqel_list *named(struct yumbaqel_river *river, const char *name)
+{
+    size_t i;
+    for (i = 0; i < SIZE(lists); i++)
+        if (IS(lists[i].name))
+            return list_of(river, &lists[i]);
+    exit(2);
+}
+
+static int lend(const char *name, struct yumbaqel_river *river, size_t first)
+{
+    const struct yumbaqel_river *const origin = &rivers[0];
+    struct yumbaqel_list *two[2];
+    if (IS("lend"))
+        yumbaqel_river_lend(river, first, words, wide_words);
+    else if (IS("lend_state"))
+        yumbaqel_river_lend_state(river, first, copy_words, copy_wide_words);
+    else if (IS("lend_rows"))
+        yumbaqel_river_lend_rows(river, first, row_words);
+    else if (IS("lend_copy"))
+        yumbaqel_river_lend_copy(river, origin, first, copy_words, copy_wide_words);
+    else if (IS("divide")) {
+        two[0] = &river->cb;
+        two[1] = &river->a;
+        yumbaqel_divide(two, 2, first, row_words);
+    } else
+        return 0;
+    lent[river - rivers] = 1;
+    return 1;
+}
+
+/* A report by the macros alone, as a caller may write it. */
+static void report_by_macros(const struct yumbaqel_river *river, uint32_t segment)
+{
+    struct yumbaqel_refusal told;
+    struct yumbaqel_figures figures = {11, 12, 13};
+    yumbaqel_report(&told.number, &told.kind, &told.place, &figures.channel, &figures.storage, &figures.sediment,
+                    river->loaded.segments, YUMBAQEL_LISTS(river), YUMBAQEL_FIGURES(river), river->upstream, river->done, segment);
+    print_told(told);
+    print_struct("reported", "yumbaqel_figures", &figures);
+}
+
+/* What a helper only reads it must take as const. */
+static int call(const char *name, struct yumbaqel_river *river, uint32_t first)
+{
+    const struct yumbaqel_river *const lasting = river, *const other = &rivers[first % SIZE(rivers)];
+    const uint8_t *const sheet = sheets[first % SIZE(sheets)];
+    struct yumbaqel_figures figures = {21, 22, 23};
+    uint32_t u = 31;
+    size_t i;
+    if (IS("load")) {
+        print_told(yumbaqel_river_load(river, sheet, lengths[first], reaches, SIZE(reaches)));
+        for (i = 0; i < SIZE(reaches); i++)
+            print_struct("reach", "yumbaqel_reach", &reaches[i]);
+    } else if (IS("rows"))
+        print_told(yumbaqel_river_rows(river));
+    else if (IS("upstream")) {
+        print_told(yumbaqel_river_upstream(lasting, first, &u));
+        printf(" u %llu\n", UNSIGNED(u));
+    } else if (IS("gauge"))
+        printf(" gauge %llu\n", UNSIGNED(yumbaqel_river_gauge(lasting, first)));
+    else if (IS("dt"))
+        printf(" dt %llu\n", UNSIGNED(yumbaqel_river_dt(lasting)));
+    else if (IS("dx"))
+        printf(" dx %llu\n", UNSIGNED(yumbaqel_river_dx(lasting)));
+    else if (IS("start"))
+        print_told(yumbaqel_river_start(river, first));
+    else if (IS("step"))
+        print_told(yumbaqel_river_step(river, first));
+    else if (IS("report")) {
+        print_told(yumbaqel_river_report(lasting, first, &figures));
+        print_struct("reported", "yumbaqel_figures", &figures);
+    } else if (IS("report_by_macros"))
+        report_by_macros(lasting, first);
+    else if (IS("copy_state"))
+        print_told(yumbaqel_river_copy_state(river, other));
+    else
+        return 0;
+    return 1;
+}
+
+/* What no helper does: a list told shorter, a figure put into it, a figure of the struct. */
+static int change(const char *name, struct yumbaqel_river *river, const char *field, size_t first, uint32_t second)
+{
+    if (IS("length"))
+        named(river, field)->length = first;
+    else if (IS("put"))
+        named(river, field)->at[first] = second;
+    else if (IS("working")) {
+        river->p.length = first;
+        river->y.length = second;
+    } else if (IS("segments"))
+        river->loaded.segments = (uint32_t)first;
+    else if (IS("steps"))
+        river->loaded.steps = (uint32_t)first;
+    else if (IS("marks"))
+        recorder_marks = (int)first;
+    else
+        return 0;
+    return 1;
+}
+
+static size_t read_sheet(const char *name, uint8_t *sheet)
+{
+    FILE *file = fopen(name, "rb");
+    size_t length = file == NULL ? 0 : fread(sheet, 1, YUMBAQEL_LONGEST_SHEET, file);
+    if (file == NULL || fclose(file) != 0)
+        exit(2);
+    return length;
+}
+
+int main(int count, char **arguments)
+{
+    char line[200], name[32], field[32];
+    unsigned which;
+    unsigned long first, second;
+    if (count != 3)
+        return 2;
+    lengths[0] = read_sheet(arguments[1], sheets[0]);
+    lengths[1] = read_sheet(arguments[2], sheets[1]);
+    print_names();
+    printf("version %llu\n", UNSIGNED(yumbaqel_version()));
+    fill();
+    while (fgets(line, sizeof line, stdin) != NULL) {
+        if (sscanf(line, "%31s %u %31s %lu %lu", name, &which, field, &first, &second) != 5)
+            return 2;
+        printf("%s", line);
+        if (!lend(name, &rivers[which], first) && !call(name, &rivers[which], (uint32_t)first)
+            && !change(name, &rivers[which], field, first, (uint32_t)second))
+            return 2;
+        for (which = 0; which < SIZE(rivers); which++)
+            if (lent[which])
+                print_river(&rivers[which]);
+    }
+    return 0;
+}
+
+#endif

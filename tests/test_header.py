@@ -1,0 +1,416 @@
+"""Holds the header for C to the library, to the model and to document 01.
+
+    python3 tests/test_header.py PATH_TO_ARCHIVE
+
+tests/header.c, compiled against include/yumbaqel.h, prints every constant, enum number and field and puts every
+helper to the library; what it prints must be what the model gives.  Limits, numbers and kinds are also put to the
+library itself, declarations are compared with the library's source, and the refusals' comments with document 01.
+Then wrong headers are made by single edits, and each of them must be caught in the same way.
+The exit status is 0 only when the header agrees and every wrong one is caught.
+"""
+from __future__ import annotations
+
+import argparse
+import ctypes
+import os
+import random
+import re
+import shutil
+import subprocess
+import sys
+import tempfile
+import time
+from collections import Counter
+from collections.abc import Callable
+from concurrent.futures import ThreadPoolExecutor
+from dataclasses import replace
+from pathlib import Path
+from typing import Optional
+
+import model
+import sheets
+import stack
+from calls import Answer, Caller, Run, Tally
+from library import COLUMNS, KINDS, ROOT, STRICT, BuildFault, Library, compiled, shared_object
+from mirror import LOADED, LOADED_LISTS, MACROS, REACH, ROW_LISTS, STATE_LISTS, Mirror, commands, distinct_draft
+from model import HIGHEST, MOST_REACHES, MOST_ROWS, MOST_SEGMENTS, MOST_STEPS, Row
+from signatures import declaration, recorder_source, signatures
+from wrong_headers import Header, Wrong, tokens
+
+HEADER = ROOT / "include" / "yumbaqel.h"
+PROGRAM = ROOT / "tests" / "header.c"
+DOCUMENT = ROOT / "docs" / "01-scope.md"
+PREFIX = "YUMBAQEL_"
+MOST_SHOWN = 10                     # faults or survivors described
+SHOWN_BY_NAMES = {"figure", "enum", "field"}    # the wrong headers that are nearly all caught so
+
+
+def say(line: str) -> None:
+    print(line, flush=True)
+
+
+# What header.c must print of names and layout
+
+U32, SIZE = ctypes.c_uint32, ctypes.c_size_t
+
+
+def struct(name: str, *fields: tuple[str, type]) -> type[ctypes.Structure]:
+    """A struct as C lays it out."""
+    return type(name, (ctypes.Structure,), {"_fields_": list(fields)})
+
+
+LIST = struct("yumbaqel_list", ("at", ctypes.POINTER(U32)), ("length", SIZE))
+WIDE_LIST = struct("yumbaqel_wide_list", ("at", ctypes.POINTER(ctypes.c_uint64)), ("length", SIZE))
+LOADED_STRUCT = struct("yumbaqel_loaded", *((name, U32) for name in LOADED))
+STRUCTS = (
+    struct("yumbaqel_reach", *((name, U32) for name in REACH)), LOADED_STRUCT, LIST, WIDE_LIST,
+    struct("yumbaqel_river", *((name, LIST) for name in (*LOADED_LISTS, *STATE_LISTS)), ("upstream", U32),
+           ("done", U32), ("p", WIDE_LIST), ("y", WIDE_LIST), ("loaded", LOADED_STRUCT),
+           ("sheet", ctypes.POINTER(ctypes.c_uint8)), ("sheet_length", SIZE), *((name, LIST) for name in ROW_LISTS),
+           ("rows", U32)),
+    struct("yumbaqel_refusal", ("number", U32), ("kind", U32), ("place", U32)),
+    struct("yumbaqel_figures", ("channel", U32), ("storage", U32), ("sediment", ctypes.c_uint64)),
+)
+REFUSALS = ("ACCEPTED", "MARK", "SHORT_SHEET", "COUNT", "LONG_SHEET", "HEADER", "REACH_FIELD", "SEGMENTS",
+            "BOUNDARY_ROW", "GAUGE", "FLOW", "FACE", "SUM", "SHORT_LIST", "FIGURE", "STEPS_DONE")
+KIND_NAMES = {"NOTHING": None, "REACH": "reach", "SEGMENT": "segment", "ROW": "row"}
+TRIED = 1 + 2                       # the figure that a macro is tried on
+
+
+def constants(library: Library, used: int) -> dict[str, int]:
+    """By the model; the version is the library's, and the stack the next power of two above what was measured."""
+    return {"VERSION": library.call("version"), "SCALE": model.ONE_WHOLE, "HIGHEST": HIGHEST,
+            "MOST_SEGMENTS": MOST_SEGMENTS, "MOST_STEPS": MOST_STEPS, "MOST_REACHES": MOST_REACHES,
+            "MOST_ROWS": MOST_ROWS, "MOST_GAUGES": model.MOST_GAUGES, "LONGEST_SHEET": sheets.LONGEST,
+            "STACK": 1 << used.bit_length()}
+
+
+def wanted_names(right: dict[str, int]) -> list[str]:
+    kinds = {name: number for number, name in KINDS.items()}
+    lines = [f"number {PREFIX}{name} {figure}" for name, figure in right.items()]
+    lines += [f"number {PREFIX}{name} {number}" for number, name in enumerate(REFUSALS)]
+    lines += [f"number {PREFIX}{name} {kinds[kind]}" for name, kind in KIND_NAMES.items()]
+    lines += [f"macro {PREFIX}{name} {entries * TRIED}" for name, entries in MACROS.items()]
+    lines += [f"type {each.__name__}_has_{ctypes.sizeof(each)}_bytes 1" for each in STRUCTS[:2]]
+    for each in STRUCTS:
+        lines.append(f"struct {each.__name__} {ctypes.sizeof(each)}")
+        lines += [f"field {each.__name__} {name} {getattr(each, name).offset} {getattr(each, name).size}"
+                  for name, _ in each._fields_]
+    return lines
+
+
+def called_version(right: dict[str, int]) -> list[str]:
+    return [" call yumbaqel_version", f"version {right['VERSION']}"]
+
+
+# Limits, numbers and kinds, put to the library
+
+
+def answer_of(caller: Caller) -> Answer:
+    """Number and kind of the latest answer, which the caller has compared with the model's."""
+    number, kind = (caller.shelf.buffers[name].content()[0] for name in ("number", "kind"))
+    return number, KINDS[kind]
+
+
+class Situations:
+    """Sheets and calls at fault in one way each, put to the library and to the model."""
+
+    def __init__(self, library: Library) -> None:
+        self.library = library
+        self.good = distinct_draft()
+
+    def load(self, given: sheets.Draft | bytes, room: int = MOST_SEGMENTS + 2) -> Caller:
+        sheet = given if isinstance(given, bytes) else sheets.write(given)
+        caller = Caller(self.library, random.Random(1), Tally())
+        caller.load(sheet, [room] * len(COLUMNS), MOST_REACHES + 2, "a situation")
+        return caller
+
+    def told(self, given: sheets.Draft | bytes, room: int = MOST_SEGMENTS + 2) -> Answer:
+        return answer_of(self.load(given, room))
+
+    def refusals(self) -> dict[str, Answer]:
+        """What the library answers in the situation that each name of a refusal speaks of."""
+        good, sheet = self.good, sheets.write(self.good)
+        run = Run(self.library, random.Random(1), Tally(), sheet, "fractions")
+        run.start(run.n, HIGHEST + 1, {})
+        figure = answer_of(run)
+        run.start(run.n, 0, {})
+        for _ in range(good.header.M + 1):
+            run.step(run.n, 0, good.header.M, {})
+        return {
+            "ACCEPTED": self.told(good),
+            "MARK": self.told(b"OTR2" + sheet[len(model.MARK):]),
+            "SHORT_SHEET": self.told(sheet[:-1]),
+            "COUNT": self.told(replace(good, rows=[])),
+            "LONG_SHEET": self.told(sheet + b"\0"),
+            "HEADER": self.told(good.with_header(dt=0)),
+            "REACH_FIELD": self.told(good.with_reach(1, A=0)),
+            "SEGMENTS": self.told(sheets.still_reaches(MOST_SEGMENTS, 1)),
+            "BOUNDARY_ROW": self.told(replace(good, rows=[Row(0, 1), Row(0, 2)])),
+            "GAUGE": self.told(replace(good, gauges=[good.segments + 1])),
+            "FLOW": self.told(good.with_header(top_flow=0).with_reach(0, qin=0)),
+            "FACE": self.told(good.with_reach(1, D=0)),
+            "SUM": self.told(good.with_reach(1, LAMBDA=model.HIGHEST_RATE)),
+            "SHORT_LIST": self.told(good, good.segments - 1),
+            "FIGURE": figure,
+            "STEPS_DONE": answer_of(run),
+        }
+
+    def limit_holds(self, name: str, figure: int, used: int) -> bool:
+        """Whether the library takes this figure and no more."""
+        good, many = self.good, sheets.still_reaches(MOST_SEGMENTS)
+        taken: Optional[Callable[[int], sheets.Draft]] = {
+            "HIGHEST": lambda c: replace(good, rows=[Row(0, c)]),
+            "MOST_SEGMENTS": lambda c: sheets.still_reaches(c - 1, 1),
+            "MOST_STEPS": lambda c: many.with_header(M=c),
+            "MOST_REACHES": lambda c: sheets.still_reaches(*[1] * c),
+            "MOST_ROWS": lambda c: replace(many.with_header(M=MOST_STEPS), rows=[Row(at, 0) for at in range(c)]),
+            "MOST_GAUGES": lambda c: replace(many, gauges=list(range(1, c + 1))),
+        }.get(name)
+        if taken is not None:
+            return self.told(taken(figure))[0] == 0 and self.told(taken(figure + 1))[0] != 0
+        if name == "LONGEST_SHEET":
+            longest = sheets.write(sheets.fullest(random.Random(1)))
+            return len(longest) == figure and self.told(longest)[0] == 0 and self.told(longest + b"\0")[0] == 4
+        if name == "SCALE":         # T6: e is one whole
+            return self.load(sheets.brook(dt=2, Q=1_000)).shelf.buffers["e"].content()[0] == figure
+        if name == "VERSION":
+            return self.library.call("version") == figure
+        if name == "STACK":
+            return figure // 2 <= used < figure and figure & (figure - 1) == 0
+        raise KeyError(name)
+
+
+# Headers under test
+
+
+class Bench:
+    """Compiles header.c against a header, runs it, and compares."""
+
+    def __init__(self, archive: str, folder: Path) -> None:
+        self.folder = folder
+        self.signatures = signatures()
+        self.shared = shared_object(archive, folder)
+        (folder / "recorder.c").write_text(recorder_source(self.signatures))
+        self.recorder = compiled(folder / "librecorder.so", "-shared", "-fPIC", "-O1", "-Wall", "-Werror",
+                                 str(folder / "recorder.c"), "-Wl,--no-as-needed", self.shared)
+        draft = distinct_draft()
+        self.sheets = sheets.write(draft), sheets.write(draft.with_reach(1, CB=HIGHEST + 1))
+        self.commands = commands(draft)
+        self.script = "".join(f"{command}\n" for command in self.commands).encode()
+        for name, sheet in zip(("good", "bad"), self.sheets):
+            (folder / name).write_bytes(sheet)
+        self.wanted = self.wanted_names = ""
+        self.declarations = {name: tokens(declaration(each)) for name, each in self.signatures.items()}
+
+    def expect(self, right: dict[str, int]) -> None:
+        mirror = Mirror(self.signatures, self.sheets)
+        for command in self.commands:
+            mirror.do(command)
+        names = sorted(wanted_names(right))
+        self.wanted_names = "".join(f"{line}\n" for line in names)
+        self.wanted = "".join(f"{line}\n" for line in (*sorted((*names, *called_version(right))), *mirror.lines))
+
+    def build(self, text: str, folder: Path, words: tuple[str, ...] = ("gcc", "-std=c99")) -> Optional[str]:
+        """The program against this header; nothing where it does not compile."""
+        folder.mkdir(exist_ok=True)
+        (folder / "yumbaqel.h").write_text(text)
+        run = subprocess.run([*words, "-O0", *STRICT, f"-I{folder}", "-o", str(folder / "header"), str(PROGRAM),
+                              "-x", "none", self.recorder], capture_output=True)
+        return str(folder / "header") if run.returncode == 0 else None
+
+    def output(self, program: str) -> str:
+        """What it prints, the lines of names and layout sorted; nothing where it does not end well."""
+        run = subprocess.run([program, str(self.folder / "good"), str(self.folder / "bad")], input=self.script,
+                             capture_output=True, timeout=60)
+        lines = run.stdout.decode(errors="replace").splitlines(keepends=True)
+        front = next((at for at, line in enumerate(lines) if line.startswith("lend")), len(lines))
+        return "".join((*sorted(lines[:front]), *lines[front:])) if run.returncode == 0 else ""
+
+    def caught(self, number: int, wrong: Wrong) -> Optional[str]:
+        """How a wrong header is caught, if it is; where names and layout can show it, these are printed alone first."""
+        folder = self.folder / f"wrong{number}"
+        parts = [((), self.wanted)]
+        if wrong.kind in SHOWN_BY_NAMES:
+            parts.insert(0, (("-DNAMES",), self.wanted_names))
+        try:
+            for words, wanted in parts:
+                program = self.build(wrong.text, folder, ("gcc", "-std=c99", *words))
+                if program is None:
+                    return "compiling"
+                if self.output(program) != wanted:
+                    return "running"
+            return None
+        except subprocess.TimeoutExpired:
+            return "running"
+        finally:
+            shutil.rmtree(folder)
+
+
+def declarations_hold(header: Header, wanted: dict[str, list[str]]) -> bool:
+    """Each function is declared as the library has it, names of parameters too, and no other."""
+    return wanted == {function.name: tokens(function.head) for function in header.exports}
+
+
+def first_difference(found: str, wanted: str) -> str:
+    command = "names"
+    for here, there in zip(found.splitlines(), wanted.splitlines()):
+        command = there if not there.startswith(" ") else command
+        if here != there:
+            return f"{command}: {here!r}, not {there!r}"
+    return "one is longer" if len(found) != len(wanted) else "none"
+
+
+def unknown_names(header: Header, printed: str) -> set[str]:
+    """What the header has and header.c neither prints nor calls."""
+    known = set(re.findall(r"^(?:number|macro|type|struct) (\w+)", printed, re.M))
+    known |= {f"{struct}.{field}" for struct, field in re.findall(r"^field (\w+) (\w+)", printed, re.M)}
+    functions = {each.name for each in (*header.exports, *header.helpers)} | {macro.name for macro in header.macros}
+    called = {name for name in functions if re.search(rf"\b{name}\(", PROGRAM.read_text())}
+    called |= {f"yumbaqel_{name}" for name in re.findall(r"^ call yumbaqel_(\w+)", printed, re.M)}
+    return header.names() - known - called - set(header.enums)
+
+
+def refusal_comments(header: Header) -> dict[int, str]:
+    """The comment at each number of a refusal, as one line."""
+    text = header.text[header.text.index("enum yumbaqel_number {"):header.text.index("enum yumbaqel_kind {")]
+    return {int(number): " ".join(comment.split())
+            for number, comment in re.findall(r"= (\d+),? +/\*(.*?)\*/", text, re.S)}
+
+
+def document_refusals() -> dict[int, str]:
+    text = DOCUMENT.read_text()
+    plain = text[text.index("## Refusals"):text.index("## Promises")].replace("×", "x")
+    return {int(number): words for number, words in re.findall(r"^(\d+)\. (.*)$", plain, re.M)}
+
+
+NAMED = (                           # slips that a test of the calls alone does not see, by name
+    ("half as many gauges", r"(MOST_GAUGES) 32", r"\1 16"),
+    ("two refusal numbers exchanged", r"(FLOW = )10(.*FACE = )11", r"\g<1>11\g<2>10"),
+    ("area and area2 exchanged", r"(uint32_t )area;(.*?uint32_t )area2;", r"\1area2;\2area;"),
+    ("storage and sediment exchanged in a macro",
+     r"(\(r\)->storage.at, \(r\)->storage.length), (\(r\)->sediment.at, \(r\)->sediment.length)", r"\2, \1"),
+)
+
+
+def named(header: Header) -> list[Wrong]:
+    """Each of these as a wrong header."""
+    found = []
+    for what, pattern, by in NAMED:
+        text, count = re.subn(pattern, by, header.text, count=1, flags=re.S)
+        if count != 1:
+            raise BuildFault(f"the header has no place for: {what}")
+        found.append(Wrong("named", what, text))
+    return found
+
+
+# The test
+
+
+class Report:
+    """Counts what was held, and says what does not hold."""
+
+    def __init__(self) -> None:
+        self.held = self.faults = 0
+
+    def hold(self, holds: bool, what: str) -> None:
+        self.held += 1
+        if not holds:
+            self.faults += 1
+            if self.faults <= MOST_SHOWN:
+                say(f"  {what}")
+
+    def line(self, what: str) -> None:
+        say(f"{what} ({self.held} held, {self.faults} faults)")
+
+
+def hold_header(bench: Bench, header: Header, report: Report) -> None:
+    """The header as it stands: read, compiled as C99 and, if there is a compiler, as C++, and run."""
+    report.hold(declarations_hold(header, bench.declarations), "a declaration is not the library's")
+    said, words = refusal_comments(header), document_refusals()
+    report.hold(set(said) == set(words) == set(range(1, len(REFUSALS))), "a refusal has no comment")
+    for number, comment in said.items():
+        report.hold(words[number].startswith(comment), f"refusal {number} is not in document 01's words: {comment}")
+    builds = {"C99": ("gcc", "-std=c99"), "optimised": ("gcc", "-std=c99", "-O2"),
+              "names": ("gcc", "-std=c99", "-DNAMES")}
+    if shutil.which("g++"):
+        builds["C++"] = ("g++", "-x", "c++", "-std=c++11")
+    for name, words in builds.items():
+        program = bench.build(header.text, bench.folder / name, words)
+        wanted = bench.wanted_names if name == "names" else bench.wanted
+        printed = bench.output(program) if program else ""
+        report.hold(program is not None, f"{name}: does not compile")
+        report.hold(printed == wanted, f"{name}: {first_difference(printed, wanted)}")
+    unknown = unknown_names(header, bench.wanted)
+    report.hold(not unknown, f"header.c does not know {sorted(unknown)}")
+    report.line(f"the header: {len(header.names())} names, {len(bench.commands)} commands, as {', '.join(builds)}")
+
+
+def hold_behaviour(bench: Bench, right: dict[str, int], used: int, report: Report) -> None:
+    """Limits, refusals and kinds by what the library answers; wrong figures would not pass either."""
+    situations = Situations(Library(bench.shared))
+    for name, figure in right.items():
+        report.hold(situations.limit_holds(name, figure, used), f"{name} {figure} is not the library's")
+        for other in {figure + 1, figure - 1, figure // 2}:
+            report.hold(not situations.limit_holds(name, other, used), f"{name} {other} would pass")
+    found = situations.refusals()
+    for number, name in enumerate(REFUSALS):
+        report.hold(found[name][0] == number, f"{name} is {number}, and the library answers {found[name][0]}")
+    kinds = {kind for _, kind in found.values()}
+    report.hold(kinds == set(KIND_NAMES.values()), f"the library answers the kinds {kinds}")
+    report.line("limits, refusals and kinds put to the library")
+
+
+def hold_edits(bench: Bench, header: Header, report: Report) -> None:
+    """Every wrong header is caught: declarations by reading them, all others by compiling or running."""
+    read = list(header.wrong_declarations())
+    for wrong in read:
+        report.hold(not declarations_hold(Header(wrong.text), bench.declarations), f"not caught: {wrong.edit}")
+    edits = [*named(header), *header.wrong_headers()]
+    with ThreadPoolExecutor(max_workers=os.cpu_count()) as workers:
+        ways = list(workers.map(bench.caught, range(len(edits)), edits))
+    for wrong, way in zip(edits, ways):
+        report.hold(way is not None, f"not caught: {wrong.kind}, {wrong.edit}")
+    unedited = Wrong("none", "the header itself", header.text)
+    report.hold(bench.caught(len(edits), unedited) is None, "the header itself is caught after all others")
+    for wrong, way in zip(edits[:len(NAMED)], ways):
+        say(f"  {wrong.edit}: caught by {way}")
+    for kind, count in Counter(wrong.kind for wrong in edits).items():
+        here = Counter(way or "nothing" for wrong, way in zip(edits, ways) if wrong.kind == kind)
+        shown = ", ".join(f"{way} {each}" for way, each in sorted(here.items()))
+        say(f"  {kind}: {count} wrong headers, caught by {shown}")
+    total = Counter(way or "nothing" for way in ways)
+    report.line(f"{len(read) + len(edits)} wrong headers: {len(read)} declarations caught by reading, "
+                f"{total['compiling']} by compiling, {total['running']} by running, {total['nothing']} not caught")
+
+
+def main() -> int:
+    parser = argparse.ArgumentParser(description="Holds the header for C to the library and the model.")
+    parser.add_argument("archive", help="path of libyumbaqel.a")
+    asked = parser.parse_args()
+    report = Report()
+    begin = time.monotonic()
+    header = Header(HEADER.read_text())
+    try:
+        with tempfile.TemporaryDirectory(prefix="yumbaqel-") as name:
+            bench = Bench(asked.archive, Path(name))
+            used = stack.measured(asked.archive, Path(name))
+            del used["stated"]
+            right = constants(Library(bench.shared), max(used.values()))
+            bench.expect(right)
+            hold_header(bench, header, report)
+            hold_behaviour(bench, right, max(used.values()), report)
+            hold_edits(bench, header, report)
+    except (BuildFault, OSError, subprocess.TimeoutExpired) as fault:
+        say(f"FAILED: {fault}")
+        return 1
+    say(f"{time.monotonic() - begin:.0f} s")
+    if report.faults:
+        say(f"FAILED: {report.faults} faults")
+        return 1
+    say("passed")
+    return 0
+
+
+if __name__ == "__main__":
+    sys.exit(main())
