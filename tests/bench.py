@@ -58,7 +58,7 @@ def bench_figures() -> Iterator[Check]:
     yield Check("1,024 segments", answer(sheets.still_reaches(1_024)), ACCEPTED)
     yield Check("1,025 segments", answer(sheets.still_reaches(1_024, 1)), (7, None))
     yield Check("the listing", model.listing(sheets.write(sheets.listing_draft())), sheets.LISTING)
-    yield Check("the longest sheet", sheets.LONGEST, 6_308)
+    yield Check("the longest sheet", model.LONGEST_SHEET, 6_308)
 
 
 class Bench:

@@ -14,7 +14,8 @@ from typing import NamedTuple
 
 import model
 import sheets
-from sheets import BROOK_REACH, Draft, brook, put, still_reaches, word, write
+from model import MARK, Reach
+from sheets import BROOK_REACH, Draft, brook, offset, put, still_reaches, word, write
 
 ROOM = 1_100                        # the length of the program's lists
 SEVEN = 7
@@ -53,19 +54,19 @@ def chosen() -> Iterator[Lent]:
     yield Lent(write(still_reaches(1_000, 25)), records=0)      # 7 before 13
     yield Lent(b"")                                             # 1
     yield Lent(b"OTR")
-    yield Lent(b"OTR2" + sheet[4:])
-    for cut in range(4, len(sheet), 9):                         # 2, in every section
+    yield Lent(b"OTR2" + sheet[len(MARK):])
+    for cut in range(len(MARK), len(sheet), 9):                         # 2, in every section
         yield Lent(sheet[:cut])
     for case in sheets.counted_sheets(full):                    # 3
         yield Lent(case.sheet)
     yield Lent(sheet + b"\0")                                   # 4
-    yield Lent(put(sheet, 4, 0) + b"\0")
-    for at, figure in ((4, 3_601), (8, 9), (12, 100_001), (16, 10), (20, 100_000_001)):
-        yield Lent(put(sheet, at, figure))                      # 5
-    for reach in range(2):                                      # 6, the lowest reach
-        for field in range(16):
-            yield Lent(put(sheet, 28 + 64 * reach + 4 * field, 2_000_000_000))
-    yield Lent(put(put(sheet, 28, 0), 28 + 64, 0))
+    yield Lent(write(full.with_header(dt=0)) + b"\0")
+    for name, figure in (("dt", 3_601), ("dx", 9), ("M", 100_001), ("interval", 10), ("top_flow", 100_000_001)):
+        yield Lent(put(sheet, offset(full, name), figure))      # 5
+    for reach in (1, 2):                                        # 6, the lowest reach
+        for name in Reach._fields:
+            yield Lent(put(sheet, offset(full, f"reach {reach} {name}"), 2_000_000_000))
+    yield Lent(write(full.with_reach(0, segments=0).with_reach(1, segments=0)))
     for case in sheets.disordered_sheets(full):                 # 8 and 9
         yield Lent(case.sheet)
     yield Lent(write(full.with_header(top_flow=0).with_reach(0, qin=0, qout=40_000)))       # 10

@@ -29,6 +29,13 @@ def pieces(sheet: bytes, pauses: tuple[int, ...]) -> list[bytes]:
     return [sheet[begin:end] for begin, end in zip([0, *pauses], ends)]
 
 
+def expect_success(status: int, complaint: bytes) -> None:
+    """A program that ended by a signal or with another exit status than 0 is at fault."""
+    if status != 0:
+        end = f"signal {-status}" if status < 0 else f"exit status {status}"
+        raise ProgramFault(f"ended by {end} {complaint[-300:]!r}")
+
+
 def printed(path: str, sheet: bytes, pauses: tuple[int, ...] = ()) -> bytes:
     """What the program prints for a sheet, delivered whole or with pauses."""
     with Popen([path], stdin=PIPE, stdout=PIPE, stderr=PIPE) as child:
@@ -45,8 +52,7 @@ def printed(path: str, sheet: bytes, pauses: tuple[int, ...] = ()) -> bytes:
         except TimeoutExpired:
             child.kill()
             raise Endless(f"no end within {SECONDS} seconds")
-    if child.returncode < 0:
-        raise ProgramFault(f"ended by signal {-child.returncode} {complaint[-300:]!r}")
+    expect_success(child.returncode, complaint)
     return listing
 
 

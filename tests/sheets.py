@@ -13,12 +13,10 @@ from typing import NamedTuple, Optional
 
 import model
 from model import (CONCENTRATION, FIELD, FLOW, HIGHEST, HIGHEST_FLOW, HIGHEST_KD, HIGHEST_RATE, KD_UNIT,
-                   LATERAL, MARK, MOST_GAUGES, MOST_REACHES, MOST_ROWS, MOST_SEGMENTS, MOST_STEPS,
-                   ONE_WHOLE, RATE_UNIT, REACH_RANGES, Header, Range, Reach, Row)
+                   LATERAL, LONGEST_SHEET, MARK, MOST_GAUGES, MOST_REACHES, MOST_ROWS, MOST_SEGMENTS,
+                   MOST_STEPS, ONE_WHOLE, RATE_UNIT, REACH_RANGES, Header, Range, Reach, Row)
 
 HIGHEST_FIELD = 2 ** 32 - 1
-LONGEST = len(MARK) + FIELD * (len(Header._fields) + 1 + MOST_REACHES * len(Reach._fields)
-                               + 1 + MOST_ROWS * len(Row._fields) + 1 + MOST_GAUGES)
 BUFFER = 65_536                     # a length at which a program may stop reading
 ACCEPTED = 0                        # in place of a refusal's number
 
@@ -568,7 +566,7 @@ def extreme_rivers() -> Iterator[Case]:
 
 
 def fullest(rng: random.Random) -> Draft:
-    """64 reaches, 256 rows, 32 gauges: the longest sheet there is."""
+    """The most reaches, rows and gauges: the longest sheet there is."""
     reach = plain().reaches[0]._replace(segments=1, qout=3_000)
     steps = MOST_ROWS - 1
     return Draft(Header(dt=10, dx=1_000, M=steps, interval=steps - 1, top_flow=20_000),
@@ -580,10 +578,9 @@ def fullest(rng: random.Random) -> Draft:
 
 
 def broad_rivers(rng: random.Random) -> Iterator[Case]:
-    """The longest sheet, a long listing, and the highest count of steps."""
-    yield Case("the longest sheet", write(fullest(rng)), ACCEPTED)
-    wide = good_river(rng, 32, 1_000).with_header(interval=1)
-    yield Case("a listing of 32,000 lines", write(replace(wide, gauges=list(range(1, 33)))), ACCEPTED)
+    """A long listing, and the highest count of steps."""
+    wide = good_river(rng, MOST_GAUGES, 1_000).with_header(interval=1)
+    yield Case("a listing of 32,000 lines", write(replace(wide, gauges=list(range(1, MOST_GAUGES + 1)))), ACCEPTED)
     most = brook(dt=1, Q=500, M=MOST_STEPS, ALPHA=100_000_000, LAMHAT=100_000_000, RHO=1_000_000, Kd=1)
     rows = [Row(0, 0), Row(10, HIGHEST), Row(MOST_STEPS // 2, 3), Row(MOST_STEPS, HIGHEST)]
     most = replace(most, rows=rows).with_header(interval=MOST_STEPS // 16)
@@ -603,12 +600,27 @@ def cut_sheets(draft: Draft) -> Iterator[Case]:
 def lengthened_sheets(rng: random.Random, draft: Draft) -> Iterator[Case]:
     """Bytes after the last gauge, few and many; a wrong header does not come first."""
     sheet = write(draft)
-    lengths = [length + more for length in (LONGEST, BUFFER) for more in (-1, 0, 1)]
+    lengths = [length + more for length in (LONGEST_SHEET, BUFFER) for more in (-1, 0, 1)]
     for extra in (1, 2, 3, 4, 5, 8, 64, 1_000, *(length - len(sheet) for length in lengths), 200_000):
         for tail in (bytes(extra), rng.randbytes(extra), (sheet * (1 + extra // len(sheet)))[:extra]):
             yield Case(f"{extra} bytes added", sheet + tail, 4)
         yield Case(f"{extra} bytes added, dt 0", write(draft.with_header(dt=0)) + bytes(extra), 4)
         yield Case(f"{extra} bytes added, another mark", b"OTR2" + sheet[len(MARK):] + bytes(extra), 1)
+
+
+def longest_sheets(rng: random.Random) -> Iterator[Case]:
+    """The longest sheet whole, cut by a byte and with bytes after it, which a program sees only if it reads them."""
+    draft = fullest(rng)
+    sheet = write(draft)
+    if len(sheet) != LONGEST_SHEET:
+        raise RuntimeError(f"the fullest sheet has {len(sheet)} bytes, not {LONGEST_SHEET}")
+    yield Case("the longest sheet", sheet, ACCEPTED)
+    yield Case("the longest sheet, cut by a byte", sheet[:-1], 2)
+    for extra in (1, 2, FIELD, LONGEST_SHEET, BUFFER - LONGEST_SHEET, BUFFER, 200_000):
+        for tail in (bytes(extra), rng.randbytes(extra)):
+            yield Case(f"the longest sheet, {extra} bytes added", sheet + tail, 4)
+        yield Case(f"the longest sheet, {extra} bytes added, dt 0", write(draft.with_header(dt=0)) + bytes(extra), 4)
+    yield Case("the longest sheet, a byte added after a pause", sheet + b"\0", 4, "", (len(sheet),))
 
 
 def marked_sheets(rng: random.Random, draft: Draft) -> Iterator[Case]:

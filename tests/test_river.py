@@ -25,6 +25,7 @@ import bench
 import check_vectors
 import exact
 import model
+import outputs
 import sheets
 from program import Endless, ProgramFault, first_difference, printed, program_path
 from sheets import ACCEPTED, Case
@@ -106,6 +107,7 @@ GROUPS = (
     Group("extreme rivers", lambda rng: sheets.extreme_rivers(), 50, GOOD | {5, 8, 9, 10, 11, 12}, exact=True),
     Group("sheets cut short", lambda rng: sheets.cut_sheets(PLAIN), 250, {1, 2}),
     Group("sheets with bytes added", lambda rng: sheets.lengthened_sheets(rng, PLAIN), 70, {1, 4}),
+    Group("the longest sheets", lambda rng: sheets.longest_sheets(rng), 24, GOOD | {2, 4}),
     Group("other marks", lambda rng: sheets.marked_sheets(rng, PLAIN), 130, {1, 2, 3}),
     Group("other counts", lambda rng: sheets.counted_sheets(PLAIN), 150, {2, 3, 4}),
     Group("fields at the ends of their ranges", lambda rng: sheets.end_of_range_sheets(PLAIN), 400,
@@ -126,7 +128,7 @@ GROUPS = (
     Group("figures at the highest", lambda rng: sheets.highest_rivers(rng, 120), 120, GOOD, True, True),
     Group("large rivers", lambda rng: sheets.large_rivers(rng, 5), 5, GOOD, True, True),
     Group("many steps", lambda rng: sheets.long_rivers(rng, 4), 4, GOOD, True, True),
-    Group("the broadest sheets", lambda rng: sheets.broad_rivers(rng), 3, GOOD),
+    Group("the broadest sheets", lambda rng: sheets.broad_rivers(rng), 2, GOOD),
 )
 
 
@@ -248,6 +250,17 @@ def run_vectors(path: str, total: Tally) -> None:
     say(f"fixed vectors: {len(found)} sheets, {len(faults)} differences")
 
 
+def run_outputs(path: str, total: Tally) -> None:
+    """Outputs that fail in the middle of a listing."""
+    faults = list(outputs.differences(path))
+    for fault in faults:
+        say(f"  {fault}")
+    total.checks += len(outputs.OUTPUTS)
+    total.differences += len(faults)
+    total.groups += 1
+    say(f"outputs that fail: {len(outputs.OUTPUTS)} runs, {len(faults)} differences")
+
+
 def arguments() -> argparse.Namespace:
     parser = argparse.ArgumentParser(description="Tests program `river` from outside.")
     parser.add_argument("river", help="path of the program")
@@ -264,6 +277,7 @@ def run_all(path: str, asked: argparse.Namespace, total: Tally) -> None:
     end = time.monotonic() + 60 * asked.minutes
     run_checks(total)
     run_vectors(path, total)
+    run_outputs(path, total)
     pool = ProcessPoolExecutor(AT_ONCE)
     try:
         for group in GROUPS:
@@ -296,7 +310,7 @@ def main() -> int:
         f"{total.held} figures within {total.per_step:.3f} per step of the exact river, "
         f"{exact.ALLOWED} allowed")
     unseen = (REFUSALS | GOOD) - set(total.answers)
-    if total.differences or unseen or total.held == 0 or total.groups < len(GROUPS) + 2:
+    if total.differences or unseen or total.held == 0 or total.groups < len(GROUPS) + 3:
         say(f"FAILED: {total.differences} differences, answers never seen {sorted(unseen)}")
         return 1
     say("passed")

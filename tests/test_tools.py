@@ -123,9 +123,11 @@ def any_fields(rng: random.Random) -> bytes:
     def figures(count: int) -> list[int]:
         return [rng.choice((0, 1, rng.randrange(100), rng.randrange(2 ** 32), 2 ** 32 - 1)) for _ in range(count)]
 
-    reaches, rows, gauges = rng.choice((1, 2, 5, 64)), rng.choice((1, 3, 9, 256)), rng.choice((1, 5, 32))
-    return write(Draft(Header(*figures(5)), [Reach(*figures(16)) for _ in range(reaches)],
-                       [Row(*figures(2)) for _ in range(rows)], figures(gauges)))
+    reaches, rows = rng.choice((1, 2, 5, model.MOST_REACHES)), rng.choice((1, 3, 9, model.MOST_ROWS))
+    gauges = rng.choice((1, 5, model.MOST_GAUGES))
+    return write(Draft(Header(*figures(len(Header._fields))),
+                       [Reach(*figures(len(Reach._fields))) for _ in range(reaches)],
+                       [Row(*figures(len(Row._fields))) for _ in range(rows)], figures(gauges)))
 
 
 def sheets_that_pass_4(rng: random.Random) -> Iterator[bytes]:
@@ -287,7 +289,7 @@ def told_of_sheets() -> Iterator[tuple[bytes, str, tuple[str, ...]]]:
     """Sheets, the first line of their explanation, and what else it must say."""
     base = plain()
     sheet = write(base)
-    rows = 28 + 3 * 64 + 4                              # where the rows of the plain river begin
+    rows = sheets.offset(base, "row 1 start")
     yield b"OTR2" + sheet[4:], "refused 1", ("starts with b'OTR2', not with OTR1",)
     yield b"", "refused 1", ("has 0 bytes",)
     yield sheet[:99], "refused 2", ("ends after 99 bytes, inside dispersion D of reach 2",)

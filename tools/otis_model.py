@@ -87,6 +87,10 @@ class Row(NamedTuple):
     concentration: int
 
 
+LONGEST_SHEET = len(MARK) + FIELD * (len(Header._fields) + 1 + MOST_REACHES * len(Reach._fields)
+                                     + 1 + MOST_ROWS * len(Row._fields) + 1 + MOST_GAUGES)
+
+
 class Range(NamedTuple):
     low: int
     high: int

@@ -1,7 +1,7 @@
 // Answers, written for a C caller. Every store that rests on the answer is in a function of its own.
 ghost use mathlib.Core.Path.{_≡_};
 ghost use Rattle.terms.specs.Says.{placeSays, findingSays};
-ghost use Rattle.terms.specs.Lent.{entry, exit};
+ghost use Rattle.lists.specs.Lent.{entry, exit};
 ghost use Rattle.assembly.specs.Says.{loadSays};
 ghost use Rattle.boundary.specs.Says.{upstreamSays};
 ghost use Rattle.otis.specs.Says.{startSays, stepSays, reportSays};

@@ -9,7 +9,7 @@ ghost use Rattle.model.specs.Refusals.{first};
 ghost use Rattle.model.specs.Load.{rowFault};
 ghost use Rattle.model.specs.Upstream.{upstreamAt, upstreamTests, upstreamAnswer};
 ghost use Rattle.terms.specs.Says.{findingSays};
-ghost use Rattle.terms.specs.Lent.{entry};
+ghost use Rattle.lists.specs.Lent.{entry};
 ghost use Rattle.lists.specs.Lists.{lowest};
 ghost use Rattle.boundary.specs.Says.{upstreamSays};
 use crate::Upstream;

@@ -7,16 +7,19 @@ ghost use Rattle.model.specs.Load.{sumFault};
 ghost use Rattle.model.specs.Calls.{segmentFault, figureFault};
 ghost use Rattle.terms.specs.Lent.{numbers, segment};
 use rounding::WHOLE;
+use sheet::ranges::CONCENTRATION;
+use sheet::ranges::KD;
+use sheet::ranges::STEPS;
 
 // The highest concentration, in ng/L.
-pub const HIGHEST: u32 = 1_000_000_000;
+pub const HIGHEST: u32 = CONCENTRATION.high;
 
 const LIMIT: u64 = HIGHEST as u64;
 
-const MOST_KD: u64 = 1_000;
+const MOST_KD: u64 = KD.high as u64;
 
 // The highest count of steps, which is also the highest M.
-const MOST_STEPS: u64 = 100_000;
+const MOST_STEPS: u64 = STEPS.high as u64;
 
 // x is above its limit.
 pub fn or_above(fault: bool, limit: u64, x: u64) -> bool

@@ -6,14 +6,15 @@ ghost use lib.Dec.{ltb};
 ghost use Rattle.lists.specs.Lists.{lowest};
 ghost use Rattle.model.specs.State.{columnLists, figuresAt};
 ghost use Rattle.model.specs.Calls.{riverFault, figureFault, startFault};
-ghost use Rattle.terms.specs.Lent.{entry, columns, state, Long, LongFigures};
+ghost use Rattle.lists.specs.Lent.{entry};
+ghost use Rattle.terms.specs.Lent.{columns, state, Long, LongFigures};
 ghost use Rattle.calltests.specs.Tests.{anyBelow};
 use crate::limits::figure_fault;
 use crate::limits::outside;
 use crate::limits::segment_fault;
 
 // The segment limit.
-pub const SEGMENTS: u32 = 1_024;
+pub const SEGMENTS: u32 = sheet::ranges::SEGMENTS.high;
 
 const MOST_SEGMENTS: u64 = SEGMENTS as u64;
 

@@ -13,7 +13,8 @@ use Rattle.model.specs.HalfStep.{Segment, loadedSegment}
 use Rattle.model.specs.HalfStep as HalfStep
 use Rattle.model.specs.State.{Columns, loadedSegments, writeSegments}
 use Rattle.terms.specs.Says.{reachSays}
-use Rattle.terms.specs.Lent.{plain, segment, columns, Long}
+use Rattle.lists.specs.Lent.{plain}
+use Rattle.terms.specs.Lent.{segment, columns, Long}
 use Rattle.terms.specs.declared.Reach.{Reach}
 use Rattle.halfstep.specs.Site.{numbersSay}
 use Rattle.halfstep.specs.declared.Numbers.{Numbers}

@@ -5,7 +5,7 @@ ghost use Rattle.model.specs.Sheet.{dx, reaches};
 ghost use Rattle.model.specs.Flow.{courseOf};
 ghost use Rattle.model.specs.Refusals.{segment, testEach};
 ghost use Rattle.terms.specs.Says.{findingSays};
-ghost use Rattle.terms.specs.Lent.{entry};
+ghost use Rattle.lists.specs.Lent.{entry};
 ghost use Rattle.halfstep.specs.Descent.{cursorAt};
 ghost use Rattle.course.specs.Segments.{courseFault, siteFault, Clear, ClearSite, Read, IsSegment};
 use halfstep::Site;

@@ -20,7 +20,8 @@ use denote.Slice.{sliceVal, MutSlice, Room, finally}
 use denote.Steps.{heard}
 use denote.Triple.Walked.{says}
 use Rattle.model.specs.State.{Columns}
-use Rattle.terms.specs.Lent.{plain, columns}
+use Rattle.lists.specs.Lent.{plain}
+use Rattle.terms.specs.Lent.{columns}
 
 -- the references, and lists as they stand at the end
 abbrev pub Refs : ℕ → Type 0

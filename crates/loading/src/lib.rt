@@ -5,7 +5,8 @@ ghost use Prim.Native.Nat.{ℕ, _≤_};
 ghost use lib.ListN.{length};
 ghost use Rattle.model.specs.Load.{loadAnswer, loadColumns, loadRecords};
 ghost use Rattle.terms.specs.Says.{reachSays};
-ghost use Rattle.terms.specs.Lent.{entry, exit, columns};
+ghost use Rattle.lists.specs.Lent.{entry, exit};
+ghost use Rattle.terms.specs.Lent.{columns};
 ghost use Rattle.assembly.specs.Says.{loadSays};
 use assembly::Load;
 use assembly::Loaded;
@@ -14,7 +15,7 @@ use records::fill_count;
 use terms::Reach;
 
 // The most reaches that a sheet can have.
-const REACHES: usize = 64;
+const REACHES: usize = sheet::ranges::REACHES.counts.high as usize;
 
 // "The reach table is handed to the loader as a list of reach records, lent with the other lists": tests 1 to 13 on any bytes and any
 // lists; where all pass, the first entries of each list are written, otherwise nothing.

@@ -22,6 +22,7 @@ use Rattle.model.specs.Calls.{riverFault, segmentFault, figureFault, startFault
 use Rattle.model.proofs.Ranges.{inside}
 use Rattle.model.proofs.Refusals.{AllPass, all-pass, test-clear}
 use Rattle.stability.specs.Accepted.{Sums, Accepted, AtMost}
+use Rattle.lists.specs.Lent.{plain}
 use Rattle.terms.specs.Lent as Lent
 use Rattle.sweep.specs.Step as Sweep
 use Rattle.terms.specs.declared.Place as Code
@@ -132,8 +133,8 @@ module _ (n : ℕ) (x : Columns) (state : State) (lent : Working) (u′ M : ℕ)
 
     -- what the sweep asks; Kd, the start figures and the count take no part in it
     pub step-ready : Sweep.Ready n
-        (Sweep.columnsOf Lent.plain (x .e) (x .g) (x .l) (x .a) (x .b) (x .k) (x .ks) (x .h) (x .m) (x .s) (x .cl) (x .cb) [] [])
-        (Lent.state Lent.plain (state .channel) (state .storage) (state .sediment) (state .upstream) 0) lent u′
+        (Sweep.columnsOf plain (x .e) (x .g) (x .l) (x .a) (x .b) (x .k) (x .ks) (x .h) (x .m) (x .s) (x .cl) (x .cb) [] [])
+        (Lent.state plain (state .channel) (state .storage) (state .sediment) (state .upstream) 0) lent u′
     unfolding segmentAt figuresAt startFault
     step-ready =
         let columns = columns-long n x (stateLists state) (known .river) in

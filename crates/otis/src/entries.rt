@@ -1,9 +1,9 @@
-ghost use Rattle.terms.specs.Lent.{entry, exit};
 // The figures of the segments in their lists.
 ghost use mathlib.Core.Path.{_≡_};
 ghost use Prim.Native.Nat.{_*_, _<_, _≤_};
 ghost use lib.ListN.{length, getD};
 ghost use Rattle.lists.specs.Lists.{tab, over};
+ghost use Rattle.lists.specs.Lent.{entry, exit};
 use crate::Figures;
 
 // The first n entries of `from` over those of `to`.

@@ -5,7 +5,7 @@ ghost use Prim.Native.Nat.{min};
 ghost use lib.ListN.{set, getD};
 ghost use Rattle.model.specs.Sheet.{reachCount};
 ghost use Rattle.terms.specs.Says.{reachSays};
-ghost use Rattle.terms.specs.Lent.{entry, exit};
+ghost use Rattle.lists.specs.Lent.{entry, exit};
 ghost use Rattle.assembly.specs.Says.{loadSays};
 ghost use Rattle.records.specs.Records.{noReach, filled, fillCount};
 use assembly::Load;

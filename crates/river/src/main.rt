@@ -1,105 +1,49 @@
 // Program river: reads a river sheet on standard input and prints its listing, or `refused` and the number of the refusal.
+ghost use Prim.Native.Nat.{_≤_};
 use assembly::Load;
 use assembly::Loaded;
 use boundary::Upstream;
 use boundary::rows::upstream;
 use libc::STDIN_FILENO;
-use libc::STDOUT_FILENO;
 use loading::load_lists;
-use otis::Figures;
 use otis::Report;
 use otis::River;
 use otis::Start;
 use otis::Step;
+use output::LINE;
+use output::Output;
+use sheet::LONGEST;
 use sheet::fields::gauge;
+use sheet::ranges::ROWS;
 use sheet::rows::copy_rows;
 
-// The longest sheet has 6,308 bytes; one byte more shows that bytes follow its last gauge.
-const LONGEST: usize = 6309;
+// One byte more than the longest sheet has shows that bytes follow its last gauge.
+const BYTES: usize = LONGEST + 1;
 
 // The most segments and boundary rows that a sheet can have.
-const SEGMENTS: usize = 1024;
+const SEGMENTS: usize = River::SEGMENTS as usize;
 
-const ROWS: usize = 256;
-
-// What is printed goes through a buffer, which is written out when the next line might not fit. A line has five numbers, the longest
-// of 13 digits, and the text beside a number is short.
-const LINE: usize = 128;
-
-// Writes the first `used` bytes.
-fn flush(out: &[u8], used: usize) {
-    if used <= out.len() {
-        io::write_all(STDOUT_FILENO, &out[..used]);
-    }
-}
-
-// The bytes used, after the buffer was written out if a line might not fit.
-fn room(out: &[u8], used: usize) -> usize {
-    if used <= out.len() {
-        if LINE <= out.len() - used {
-            return used;
-        }
-    }
-    flush(out, used);
-    0
-}
-
-fn put_byte(out: &mut [u8], used: usize, byte: u8) -> usize {
-    if used < out.len() {
-        out[used] = byte;
-        return used + 1;
-    }
-    used
-}
-
-// Puts the text behind the bytes used.
-fn put_text(out: &mut [u8], used: usize, text: &[u8]) -> usize {
-    let mut at = used;
-    let mut i: usize = 0;
-    while i < text.len() {
-        at = put_byte(&mut out[..], at, text[i]);
-        i += 1;
-    }
-    at
-}
-
-// Puts a number and the byte that ends it.
-fn put_number(out: &mut [u8], used: usize, number: u64, end: u8) -> usize {
-    let mut digits = [0u8; 20];
-    let count = io::decimal(number, &mut digits);
-    let at = put_text(&mut out[..], used, &digits[..count]);
-    put_byte(&mut out[..], at, end)
-}
+const MOST_ROWS: usize = ROWS.counts.high as usize;
 
 // A refused sheet prints only `refused` and its number.
-fn refused(number: u32) {
-    let mut out = [0u8; 32];
-    let used = put_text(&mut out, 0, b"refused ");
-    let used = put_number(&mut out, used, number as u64, b'\n');
-    flush(&out, used);
-}
-
-// Where a listing stands: the river, and the bytes used of the buffer.
-struct Listed {
-    river: River,
-    used: usize,
-}
-
-// One line: step, gauge's segment, C, Z, Kd × W.
-fn put_line(out: &mut [u8], used: usize, step: u32, segment: u32, figures: Figures) -> usize {
-    let at = room(&out[..], used);
-    let at = put_number(&mut out[..], at, step as u64, b' ');
-    let at = put_number(&mut out[..], at, segment as u64, b' ');
-    let at = put_number(&mut out[..], at, figures.channel as u64, b' ');
-    let at = put_number(&mut out[..], at, figures.storage as u64, b' ');
-    put_number(&mut out[..], at, figures.sediment, b'\n')
+fn print_refused(number: u32) {
+    let mut buffer = [0u8; LINE];
+    let out = Output::new().put_refused(&mut buffer, number);
+    out.flush(&buffer);
 }
 
 // The line of a gauge's report; a refusal, which no gauge of an accepted sheet meets, has none.
-fn put_report(out: &mut [u8], used: usize, step: u32, segment: u32, report: Report) -> usize {
+fn put_report(out: Output, buffer: &mut [u8], step: u32, segment: u32, report: Report) -> Output {
     match report {
-        Report::Reported(figures) => put_line(&mut out[..], used, step, segment, figures),
-        Report::Refused(_, _) => used,
+        Report::Reported(figures) => out.put_line(
+            &mut buffer[..],
+            step,
+            segment,
+            figures.channel,
+            figures.storage,
+            figures.sediment,
+        ),
+        Report::Refused(_, _) => out,
     }
 }
 
@@ -126,10 +70,10 @@ fn put_step(
     channel: &[u32],
     storage: &[u32],
     sediment: &[u32],
-    out: &mut [u8],
-    used: usize,
-) -> usize {
-    let mut at = used;
+    out: Output,
+    buffer: &mut [u8],
+) -> Output {
+    let mut out = out;
     let mut left = gauges;
     while left > 0 {
         let segment = gauge(sheet, gauges - left);
@@ -154,10 +98,10 @@ fn put_step(
             sediment,
             segment,
         );
-        at = put_report(&mut out[..], at, river.steps, segment, report);
+        out = put_report(out, &mut buffer[..], river.steps, segment, report);
         left -= 1;
     }
-    at
+    out
 }
 
 // The gauges that print at a step: all of them at a multiple of the interval, else none.
@@ -195,102 +139,16 @@ fn after(stepped: Step, before: River) -> River {
     }
 }
 
-// One step, `done` with it, and its lines if it is due.
-fn turn(
-    at: Listed,
-    done: u32,
-    sheet: &[u8],
-    loaded: Loaded,
-    starts: &[u32],
-    concentrations: &[u32],
-    e: &[u32],
-    g: &[u32],
-    l: &[u32],
-    a: &[u32],
-    b: &[u32],
-    k: &[u32],
-    ks: &[u32],
-    h: &[u32],
-    m: &[u32],
-    s: &[u32],
-    cl: &[u32],
-    cb: &[u32],
-    kd: &[u32],
-    start: &[u32],
-    channel: &mut [u32],
-    storage: &mut [u32],
-    sediment: &mut [u32],
-    p: &mut [u64],
-    y: &mut [u64],
-    out: &mut [u8],
-) -> Listed {
-    let u = upstream_at(
-        starts,
-        concentrations,
-        loaded.rows as usize,
-        loaded.steps,
-        done,
-    );
-    let before = at.river;
-    let stepped = before.step(
-        loaded.segments,
-        e,
-        g,
-        l,
-        a,
-        b,
-        k,
-        ks,
-        h,
-        m,
-        s,
-        cl,
-        cb,
-        kd,
-        start,
-        &mut channel[..],
-        &mut storage[..],
-        &mut sediment[..],
-        &mut p[..],
-        &mut y[..],
-        u,
-        loaded.steps,
-    );
-    let river = after(stepped, before);
-    let used = put_step(
-        river,
-        sheet,
-        printing(done, loaded.interval, loaded.gauges),
-        loaded.segments,
-        e,
-        g,
-        l,
-        a,
-        b,
-        k,
-        ks,
-        h,
-        m,
-        s,
-        cl,
-        cb,
-        kd,
-        start,
-        &channel[..],
-        &storage[..],
-        &sediment[..],
-        &mut out[..],
-        at.used,
-    );
-    Listed {
-        river: river,
-        used: used,
-    }
+// The steps that are still due: none once a write has failed, since nothing more is printed.
+fn due(out: Output, left: u32) -> u32
+    ensures { λ r. ⌜ r ≤ left ⌝ }
+{
+    if out.failed { 0 } else { left }
 }
 
-// The steps of the sheet's own river from its start, with lines at the multiples of the interval.
+// The listing of the sheet's own river from its start: the heading, the lines at the multiples of the interval, and `done`.
 fn run(
-    begun: Listed,
+    river: River,
     sheet: &[u8],
     loaded: Loaded,
     starts: &[u32],
@@ -314,20 +172,18 @@ fn run(
     sediment: &mut [u32],
     p: &mut [u64],
     y: &mut [u64],
-    out: &mut [u8],
-) -> Listed {
+    buffer: &mut [u8],
+) {
     let steps = loaded.steps;
-    let mut at = begun;
+    let mut river = river;
+    let mut out = Output::new().put_heading(&mut buffer[..]);
     let mut left = steps;
     while left > 0 {
         left -= 1;
-        at = turn(
-            at,
-            steps - left,
-            sheet,
-            loaded,
-            starts,
-            concentrations,
+        let j = steps - left;
+        let u = upstream_at(starts, concentrations, loaded.rows as usize, steps, j);
+        let stepped = river.step(
+            loaded.segments,
             e,
             g,
             l,
@@ -347,22 +203,43 @@ fn run(
             &mut sediment[..],
             &mut p[..],
             &mut y[..],
-            &mut out[..],
+            u,
+            steps,
         );
+        river = after(stepped, river);
+        out = put_step(
+            river,
+            sheet,
+            printing(j, loaded.interval, loaded.gauges),
+            loaded.segments,
+            e,
+            g,
+            l,
+            a,
+            b,
+            k,
+            ks,
+            h,
+            m,
+            s,
+            cl,
+            cb,
+            kd,
+            start,
+            &channel[..],
+            &storage[..],
+            &sediment[..],
+            out,
+            &mut buffer[..],
+        );
+        left = due(out, left);
     }
-    at
+    let out = out.put_done(&mut buffer[..], river.steps);
+    out.flush(&buffer[..]);
 }
 
-// The last line, and what is left in the buffer.
-fn finish(out: &mut [u8], end: Listed) {
-    let used = room(&out[..], end.used);
-    let used = put_text(&mut out[..], used, b"done ");
-    let used = put_number(&mut out[..], used, end.river.steps as u64, b'\n');
-    flush(&out[..], used);
-}
-
-// The listing of an accepted sheet.
-fn listing(
+// The listing of an accepted sheet: its river is started and run.
+fn print_listing(
     sheet: &[u8],
     loaded: Loaded,
     e: &[u32],
@@ -380,15 +257,15 @@ fn listing(
     kd: &[u32],
     start: &[u32],
 ) {
-    let mut starts = [0u32; ROWS];
-    let mut concentrations = [0u32; ROWS];
+    let mut starts = [0u32; MOST_ROWS];
+    let mut concentrations = [0u32; MOST_ROWS];
     copy_rows(sheet, &mut starts, &mut concentrations);
     let mut channel = [0u32; SEGMENTS];
     let mut storage = [0u32; SEGMENTS];
     let mut sediment = [0u32; SEGMENTS];
     let mut p = [0u64; SEGMENTS];
     let mut y = [0u64; SEGMENTS];
-    let mut out = io::large_buffer();
+    let mut buffer = io::large_buffer();
     let u = upstream_at(
         &starts,
         &concentrations,
@@ -418,42 +295,34 @@ fn listing(
         u,
     );
     match started {
-        Start::Refused(number, _) => refused(number),
-        Start::Started(river) => {
-            let used = put_text(&mut out, 0, b"step segment channel storage sediment\n");
-            let begun = Listed {
-                river: river,
-                used: used,
-            };
-            let end = run(
-                begun,
-                sheet,
-                loaded,
-                &starts,
-                &concentrations,
-                e,
-                g,
-                l,
-                a,
-                b,
-                k,
-                ks,
-                h,
-                m,
-                s,
-                cl,
-                cb,
-                kd,
-                start,
-                &mut channel,
-                &mut storage,
-                &mut sediment,
-                &mut p,
-                &mut y,
-                &mut out,
-            );
-            finish(&mut out, end);
-        }
+        Start::Refused(number, _) => print_refused(number),
+        Start::Started(river) => run(
+            river,
+            sheet,
+            loaded,
+            &starts,
+            &concentrations,
+            e,
+            g,
+            l,
+            a,
+            b,
+            k,
+            ks,
+            h,
+            m,
+            s,
+            cl,
+            cb,
+            kd,
+            start,
+            &mut channel,
+            &mut storage,
+            &mut sediment,
+            &mut p,
+            &mut y,
+            &mut buffer,
+        ),
     }
 }
 
@@ -491,8 +360,8 @@ fn print(sheet: &[u8]) {
         &mut start,
     );
     match answer {
-        Load::Refused(number, _) => refused(number),
-        Load::Loaded(loaded) => listing(
+        Load::Refused(number, _) => print_refused(number),
+        Load::Loaded(loaded) => print_listing(
             sheet,
             loaded,
             &e,
@@ -514,7 +383,7 @@ fn print(sheet: &[u8]) {
 }
 
 fn main() {
-    let mut bytes = [0u8; LONGEST];
+    let mut bytes = [0u8; BYTES];
     let got = io::read_full(STDIN_FILENO, &mut bytes);
     print(&bytes[..got]);
 }

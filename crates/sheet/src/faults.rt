@@ -9,7 +9,7 @@ ghost use Rattle.model.specs.Refusals as Document;
 ghost use Rattle.model.specs.Refusals.{testEach};
 ghost use Rattle.model.specs.Load.{startsLate, rowFault, gaugeFault};
 ghost use Rattle.terms.specs.Says.{findingSays};
-ghost use Rattle.terms.specs.Lent.{entry};
+ghost use Rattle.lists.specs.Lent.{entry};
 ghost use Rattle.sheet.specs.Tables.{rangeSays};
 ghost use Rattle.sheet.specs.Entries.{IsRow, IsGauge};
 use crate::fields::dt;

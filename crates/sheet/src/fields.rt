@@ -6,7 +6,7 @@ ghost use Rattle.model.specs.Ranges.{reachSection, rowSection, gaugeSection};
 ghost use Rattle.model.specs.Sheet.{field, headerField, dt, dx, stepsM, interval, topFlow, recordField, reachOn, segmentCount};
 ghost use Rattle.model.specs.Sheet.{reachCountAt, rowCountAt, gaugeCountAt, sheetEnd, reachCount, rowCount, gaugeCount, rowsAt, gaugesAt};
 ghost use Rattle.terms.specs.Says.{reachSays};
-ghost use Rattle.terms.specs.Lent.{entry};
+ghost use Rattle.lists.specs.Lent.{entry};
 ghost use Rattle.sheet.specs.Tables.{sectionSays};
 use crate::layout::REACH_COUNT_AT;
 use crate::layout::SIZE;

@@ -2,9 +2,12 @@
 ghost use mathlib.Core.Path.{_≡_};
 ghost use Prim.Native.Nat.{_+_, _*_, _-_, _^_, _<_, _≤_, min};
 ghost use Rattle.model.specs.Sheet.{sectionEnd};
-ghost use Rattle.terms.specs.Lent.{entry};
+ghost use Rattle.lists.specs.Lent.{entry};
 ghost use Rattle.sheet.specs.Tables.{sectionSays};
 use crate::fields::field;
+use crate::ranges::GAUGES;
+use crate::ranges::REACHES;
+use crate::ranges::ROWS;
 use crate::ranges::Section;
 
 // The bytes of the mark, of a field and of a count.
@@ -13,6 +16,12 @@ pub const SIZE: usize = 4;
 const HEADER_WIDTH: usize = 5;
 
 pub const REACH_COUNT_AT: usize = SIZE + SIZE * HEADER_WIDTH;
+
+// The bytes of the longest sheet: the most records in every section.
+pub const LONGEST: usize = REACH_COUNT_AT
+    + SIZE * (1 + (REACHES.width * REACHES.counts.high) as usize)
+    + SIZE * (1 + (ROWS.width * ROWS.counts.high) as usize)
+    + SIZE * (1 + (GAUGES.width * GAUGES.counts.high) as usize);
 
 // As far as a position can be.
 const FAR: usize = usize::MAX;

@@ -4,7 +4,7 @@ ghost use lib.ListN.{getD};
 ghost use Rattle.model.specs.Refusals.{passes, test, first};
 ghost use Rattle.model.specs.Load.{sheetTests};
 ghost use Rattle.terms.specs.Says.{findingSays};
-ghost use Rattle.terms.specs.Lent.{entry};
+ghost use Rattle.lists.specs.Lent.{entry};
 
 pub mod faults;
 pub mod fields;
@@ -19,6 +19,7 @@ use faults::reach_test;
 use faults::row_test;
 use fields::segment_count;
 use fields::sheet_end;
+pub use layout::LONGEST;
 use ranges::SEGMENTS;
 use terms::Finding;
 use terms::Place;

@@ -2,7 +2,7 @@
 ghost use mathlib.Core.Path.{_≡_};
 ghost use Rattle.model.specs.Sheet.{rowStarts, rowConcentrations};
 ghost use Rattle.terms.specs.Says.{findingSays};
-ghost use Rattle.terms.specs.Lent.{entry, exit};
+ghost use Rattle.lists.specs.Lent.{entry, exit};
 ghost use Rattle.sheet.specs.Rows.{rowListTest, rowListAfter};
 use crate::fields::row_concentration;
 use crate::fields::row_count;

@@ -6,7 +6,7 @@ ghost use Rattle.model.specs.Ranges.{_to_, sections};
 ghost use Rattle.model.specs.Sheet.{reachCountAt};
 ghost use Rattle.model.specs.Load.{unmarked, walk};
 ghost use Rattle.terms.specs.Says.{findingSays};
-ghost use Rattle.terms.specs.Lent.{entry};
+ghost use Rattle.lists.specs.Lent.{entry};
 ghost use Rattle.sheet.specs.Tables.{sectionSays};
 use crate::fields::field;
 use crate::layout::REACH_COUNT_AT;

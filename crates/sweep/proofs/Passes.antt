@@ -11,7 +11,8 @@ use Rattle.model.specs.Calls.{Working}
 use Rattle.stability.specs.Stable.{Stable}
 use Rattle.stability.proofs.Passes.{top-stable, kept}
 use Rattle.sweep.specs.Segment.{stores, passed}
-use Rattle.terms.specs.Lent.{plain, state as stateOf, working as workingOf}
+use Rattle.lists.specs.Lent.{plain}
+use Rattle.terms.specs.Lent.{state as stateOf, working as workingOf}
 use Rattle.sweep.specs.Step.{columnsOf, passedOf, Ready, UpReady, FiguresOver, PassedOver, Stepped}
 use Rattle.sweep.proofs.Bounds.{ready-fit, stores-accepted}
 use Rattle.sweep.proofs.Tables.{length-tab, tab-same, over-tab, getD-table}

@@ -11,7 +11,8 @@ use Rattle.model.specs.Sweep.{Passed, up, clamp, finish, newStorage, newSedimen
 use Rattle.model.specs.State.{segmentAt, segmentsOf, State, figuresAt, figuresOf}
 use Rattle.model.specs.Calls.{Working}
 use Rattle.sweep.specs.Segment.{stores, figures, passed, RaiseReady, StoresReady}
-use Rattle.terms.specs.Lent.{plain, state as stateOf}
+use Rattle.lists.specs.Lent.{plain}
+use Rattle.terms.specs.Lent.{state as stateOf}
 use Rattle.sweep.specs.Step.{columnsOf, passedOf, UpReady, FiguresOver}
 use Rattle.sweep.proofs.Tables.{over-tab, FilledFrom, from-start, from-here, from-turn, from-end}
 use Rattle.sweep.proofs.River.{raisedAt, raised-end, raised-turn, finish-tab}

@@ -10,7 +10,8 @@ use Rattle.model.specs.Sweep.{Passed, under, downward, stepped}
 use Rattle.model.specs.TwoSets.{both}
 use Rattle.model.specs.State.{Columns, segmentAt, segmentsOf, State, figuresAt, figuresOf}
 use Rattle.model.specs.Calls.{Working}
-use Rattle.terms.specs.Lent.{plain, columns}
+use Rattle.lists.specs.Lent.{plain}
+use Rattle.terms.specs.Lent.{columns}
 use Rattle.stability.specs.Accepted.{Accepted, AtMost}
 use Rattle.stability.specs.Stable.{Stable}
 use Rattle.sweep.specs.Segment.{stores, passed, StoresReady}

@@ -7,7 +7,8 @@ ghost use lib.Dec.{ltb};
 ghost use lib.ListN.{length, getD};
 ghost use Rattle.model.specs.Sweep.{downward, finish, up, newFigures};
 ghost use Rattle.model.specs.State.{segmentsOf, figuresOf};
-ghost use Rattle.terms.specs.Lent.{entry, exit, plain, state, working};
+ghost use Rattle.lists.specs.Lent.{entry, exit, plain};
+ghost use Rattle.terms.specs.Lent.{state, working};
 ghost use Rattle.sweep.specs.Step.{columnsOf, passedOf, Ready, UpReady, FiguresOver, PassedOver, Stepped};
 
 pub mod segment;

@@ -1,32 +1,11 @@
--- What a call is lent, gathered as the records of document 01's definitions.
+-- What a call is lent, gathered as the records of document 01's definitions. `columns`, `state` and `working` take a reader of
+-- lists/specs/Lent first: when the call begins, when it is over, or plain lists.
 use mathlib.Core.List.{List}
 use Prim.Native.Nat.{ℕ, _≤_}
 use lib.ListN.{length}
-use denote.Ref.{RefT, now}
-use denote.Triple.Both.{Both}
 use Rattle.model.specs.HalfStep.{Numbers, Segment}
 use Rattle.model.specs.State.{Columns, State}
 use Rattle.model.specs.Calls.{Working}
-
--- ---- Readers: how a contract reads a list or a number that was lent. The records below take one, and then what was lent.
-
--- something lent, as an `ensures` has it: when the call begins and when it is over
-abbrev pub Lent : Type 0 → Type 0
-Lent A = Both (RefT A) (RefT A)
-
--- as it is when the call begins
-abbrev pub entry : {A : Type 0} → Lent A → A
-entry x = now (x .entry)
-
--- as it is when the call is over
-abbrev pub exit : {A : Type 0} → Lent A → A
-exit x = now (x .exit)
-
--- a list by itself, in laws
-abbrev pub plain : List ℕ → List ℕ
-plain x = x
-
--- ---- The records
 
 -- the ten half-step numbers of a segment
 abbrev pub numbers : (e g l a b k ks h m s : ℕ) → Numbers
@@ -64,8 +43,6 @@ state at channel storage sediment upstream steps =
 -- the working lists of a step
 abbrev pub working : {A : Type 0} → (A → List ℕ) → (p y : A) → Working
 working at p y = record { p = at p; y = at y }
-
--- ---- Lengths
 
 -- each of the fourteen lists has an entry for each of n segments
 pub record Long (n : ℕ) (x : Columns) : Type 0 where

@@ -5,7 +5,8 @@ use Prim.Native.Nat.{ℕ}
 use Rattle.model.specs.Refusals.{Outcome, accepted, refused}
 use Rattle.model.specs.State.{Columns, State, writeFigures}
 use Rattle.model.specs.Calls.{River, startAnswer, startState, stateAfterStart, Working, stepAnswer, stepState, stateAfterStep, stepWorking}
-use Rattle.terms.specs.Lent.{plain, state}
+use Rattle.lists.specs.Lent.{plain}
+use Rattle.terms.specs.Lent.{state}
 use Rattle.otis.specs.declared.Start.{Start}
 use Rattle.otis.specs.declared.Step.{Step}
 use Rattle.otis.specs.Says.{startSays, stepSays}

@@ -9,7 +9,8 @@ use Rattle.model.specs.State.{Columns}
 use Rattle.model.specs.Load.{sheetTests, loadTests}
 use Rattle.model.specs.Refusals.{passes, first}
 use Rattle.terms.specs.Says.{findingSays}
-use Rattle.terms.specs.Lent.{plain, columns}
+use Rattle.lists.specs.Lent.{plain}
+use Rattle.terms.specs.Lent.{columns}
 use Rattle.course.specs.Segments.{Clear, Read}
 use Rattle.assembly.proofs.LoadTests.{Judging, judging-on, judging-stop, later, clear-start, clear-next, sheet-passes, sheet-fails, test-short, test-few, test-enough}
 use Rattle.assembly.proofs.load_test.Statement.{statement}

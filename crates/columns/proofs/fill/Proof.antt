@@ -4,7 +4,8 @@ use native.Mathlib.Omega.{arith}
 use borrow.Author.Needs.{needs}
 use Rattle.model.specs.Sheet.{reaches}
 use Rattle.model.specs.Flow.{courseOf}
-use Rattle.terms.specs.Lent.{plain, columns}
+use Rattle.lists.specs.Lent.{plain}
+use Rattle.terms.specs.Lent.{columns}
 use Rattle.halfstep.proofs.Segments.{Descended}
 use Rattle.course.proofs.River.{few, clear-site, passes-site, numbers-are, descended-start, stands, descends-here, descended-here}
 use Rattle.columns.proofs.Writing.{Writing, writing-start, writing-turn, writing-end, segment-is}

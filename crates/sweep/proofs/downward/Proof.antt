@@ -5,7 +5,8 @@ use Prim.Native.Nat.{_-_, _<_}
 use native.Mathlib.Omega.{arith}
 use lib.ListN.{length}
 use Rattle.sweep.specs.Step.{columnsOf}
-use Rattle.terms.specs.Lent.{plain, state, working}
+use Rattle.lists.specs.Lent.{plain}
+use Rattle.terms.specs.Lent.{state, working}
 use Rattle.sweep.proofs.DownPass.{Down, down-inside, down-start, down-ready, down-turn, down-end}
 use borrow.Author.Needs.{needs}
 use Rattle.sweep.proofs.downward.Statement.{statement}

@@ -1,6 +1,7 @@
 -- `sweep::upward` meets its contract. The loop's invariant, `Up`: the new figures of the segments from i on are written, and the uncut C' of
 -- segment i is in the local. The measure is i.
-use Rattle.terms.specs.Lent.{plain, state, working}
+use Rattle.lists.specs.Lent.{plain}
+use Rattle.terms.specs.Lent.{state, working}
 use Rattle.sweep.proofs.UpPass.{Up, up-start, raise-ready, stores-ready, up-turn, up-end}
 use borrow.Author.Needs.{needs}
 use Rattle.sweep.proofs.upward.Statement.{statement}

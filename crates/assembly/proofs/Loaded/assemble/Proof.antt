@@ -5,7 +5,8 @@ use Rattle.model.specs.State.{Columns}
 use Rattle.model.specs.Load.{loadTests}
 use Rattle.model.specs.Refusals.{passes, first, accepted}
 use Rattle.terms.specs.Says.{findingSays}
-use Rattle.terms.specs.Lent.{plain, columns}
+use Rattle.lists.specs.Lent.{plain}
+use Rattle.terms.specs.Lent.{columns}
 use Rattle.assembly.proofs.LoadTests.{ready, answer-accepted, lists-accepted, answer-refused, lists-refused}
 use Rattle.assembly.proofs.Loaded.assemble.Statement.{statement}
 use Rattle.assembly.proofs.Loaded.assemble.Tie as tie

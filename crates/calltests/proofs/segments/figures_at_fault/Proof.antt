@@ -5,7 +5,8 @@ use borrow.Author.Needs.{needs}
 use Rattle.lists.proofs.Lowest.{Searching, searching-start, searching-hit, searching-miss, searching-end}
 use Rattle.model.specs.State.{figuresAt}
 use Rattle.model.specs.Calls.{figureFault}
-use Rattle.terms.specs.Lent.{plain, state}
+use Rattle.lists.specs.Lent.{plain}
+use Rattle.terms.specs.Lent.{state}
 use Rattle.calltests.proofs.segments.figures_at_fault.Statement.{statement}
 use Rattle.calltests.proofs.segments.figures_at_fault.Tie as tie
 

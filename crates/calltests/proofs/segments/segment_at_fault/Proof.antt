@@ -5,7 +5,8 @@ use borrow.Author.Needs.{needs}
 use Rattle.lists.proofs.Lowest.{Searching, searching-start, searching-hit, searching-miss, searching-end}
 use Rattle.model.specs.State.{segmentAt}
 use Rattle.model.specs.Calls.{startFault}
-use Rattle.terms.specs.Lent.{plain, columns}
+use Rattle.lists.specs.Lent.{plain}
+use Rattle.terms.specs.Lent.{columns}
 use Rattle.calltests.proofs.RiverLaws.{start-fault-at}
 use Rattle.calltests.proofs.segments.segment_at_fault.Statement.{statement}
 use Rattle.calltests.proofs.segments.segment_at_fault.Tie as tie

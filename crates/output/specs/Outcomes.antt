@@ -1,0 +1,36 @@
+-- What is put into the buffer and what becomes of it. No contract can say what was written: a write's own failure is the system's choice.
+use mathlib.Core.Path.{_≡_}
+use mathlib.Core.Bool.{true}
+use mathlib.Core.List.{List}
+use Prim.Native.Nat.{ℕ, _+_, _-_, _<_, _≤_, min}
+use lib.ListN.{length}
+use lib.Seq.{sets}
+use Rattle.output.specs.declared.Output.{Output}
+
+-- the text stands behind the bytes used, as far as there is room: past the end nothing is stored
+pub record Put (text : List ℕ) (o : Output) (buffer : List ℕ) (r : Output) (later : List ℕ) : Type 0 where
+  pub used : r .used ≡ o .used + min (length text) (length buffer - o .used)
+  pub failed : r .failed ≡ o .failed
+  pub bytes : later ≡ sets buffer (o .used) text
+
+-- the bytes used are written, or lost where this write or one before it failed, or where the buffer has not so many
+pub record Flushed (o : Output) (buffer : List ℕ) (r : Output) : Type 0 where
+  pub used : r .used ≡ 0
+  pub failed : o .failed ≡ true → r .failed ≡ true
+  pub lost : length buffer < o .used → r .failed ≡ true
+
+-- the most bytes of a line: five numbers of 20 digits, and the byte behind each
+abbrev pub longest : ℕ
+longest = 105
+
+-- the bytes used are written where a line might not fit behind them
+pub record Room (o : Output) (buffer : List ℕ) (r : Output) : Type 0 where
+  pub kept : o .used + longest ≤ length buffer → r ≡ o
+  pub flushed : length buffer < o .used + longest → Flushed o buffer r
+
+-- one line behind the bytes used, those written first where it might not fit; it is put whole into a buffer that can hold any line
+pub record PutLine (text : List ℕ) (o : Output) (buffer : List ℕ) (r : Output) (later : List ℕ) : Type 0 where
+  pub from : Output
+  pub room : Room o buffer from
+  pub put : Put text from buffer r later
+  pub whole : longest ≤ length buffer → r .used ≡ from .used + length text
