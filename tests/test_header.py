@@ -81,7 +81,7 @@ def constants(library: Library, used: int) -> dict[str, int]:
     """By the model; the version is the library's, and the stack the next power of two above what was measured."""
     return {"VERSION": library.call("version"), "SCALE": model.ONE_WHOLE, "HIGHEST": HIGHEST,
             "MOST_SEGMENTS": MOST_SEGMENTS, "MOST_STEPS": MOST_STEPS, "MOST_REACHES": MOST_REACHES,
-            "MOST_ROWS": MOST_ROWS, "MOST_GAUGES": model.MOST_GAUGES, "LONGEST_SHEET": sheets.LONGEST,
+            "MOST_ROWS": MOST_ROWS, "MOST_GAUGES": model.MOST_GAUGES, "LONGEST_SHEET": model.LONGEST_SHEET,
             "STACK": 1 << used.bit_length()}
 
 
@@ -285,7 +285,7 @@ def document_refusals() -> dict[int, str]:
 
 
 NAMED = (                           # slips that a test of the calls alone does not see, by name
-    ("half as many gauges", r"(MOST_GAUGES) 32", r"\1 16"),
+    ("half as many gauges", rf"(MOST_GAUGES) {model.MOST_GAUGES}\b", rf"\1 {model.MOST_GAUGES // 2}"),
     ("two refusal numbers exchanged", r"(FLOW = )10(.*FACE = )11", r"\g<1>11\g<2>10"),
     ("area and area2 exchanged", r"(uint32_t )area;(.*?uint32_t )area2;", r"\1area2;\2area;"),
     ("storage and sediment exchanged in a macro",

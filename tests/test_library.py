@@ -239,7 +239,7 @@ def pulse() -> sheets.Draft:
 def longest() -> bytes:
     """A sheet that is accepted and as long as a sheet can be."""
     sheet = sheets.write(sheets.fullest(random.Random(1)))
-    if len(sheet) != sheets.LONGEST or model.answer(sheet) is not None:
+    if len(sheet) != model.LONGEST_SHEET or model.answer(sheet) is not None:
         raise RuntimeError("the longest sheet is not accepted")
     return sheet
 
