@@ -603,6 +603,8 @@ def table_checks() -> Iterator[Check]:
                         ("much", "'much' is not a concentration such as '10 mg/L'")):
         ran = tool(CURVES, "--dt", 2, "--limit", text, given=LISTING.encode())
         yield Check(f"limit {text}", (ran.returncode, words in ran.stderr.decode()), (2, True))
+    ran = tool(CURVES, "--dt", 2, "--limit", "1 mg/L", "--show", "storage", given=LISTING.encode())
+    yield Check("a limit without the channel", (ran.returncode, "leaves the channel out" in ran.stderr.decode()), (2, True))
 
 
 def picture_checks() -> Iterator[Check]:

@@ -272,7 +272,10 @@ def arguments() -> argparse.Namespace:
     parser.add_argument("--clock", type=float, help="the hour at step 0; times are shown on that clock")
     parser.add_argument("--title", default="", help="title of the curves")
     parser.add_argument("--no-plot", action="store_true", help="print the table alone")
-    return parser.parse_args()
+    asked = parser.parse_args()
+    if asked.limit is not None and "channel" not in asked.show:
+        parser.error("--limit is a limit for the channel, and --show leaves the channel out")
+    return asked
 
 
 def main() -> int:

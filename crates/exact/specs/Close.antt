@@ -10,11 +10,11 @@ use Rattle.model.specs.Equations.{Figures}
 use Rattle.model.specs.ExactRiver.{ExactFigures}
 use Rattle.stability.specs.Accepted.{AtMost}
 
--- how far the roundings of a step take a figure, at most
+-- "6 × n": how much further from the exact river the roundings of one step take a figure, at most
 abbrev pub perStep : ℕ
 perStep = 6
 
--- and its defect: by how much, at most, the computed figures miss the equations of their segment, which have S for one
+-- the same in a segment's equation, where a figure stands times S: by how much the computed figures miss it, at most
 abbrev pub defect : ℕ
 defect = perStep * S
 
