@@ -85,7 +85,7 @@ static inline u64 sediment_right(u32 h, u32 c, u32 w) {
     return (S - h) * w + (u64)h * c;
 }
 
-/* How judge and sweep are compiled: a program may fit them to its own lists, a library cannot. */
+/* How step_test and sweep are compiled: a program may fit them to its own lists, a library cannot. */
 #ifndef LENT_CALL
 #define LENT_CALL
 #endif
@@ -94,7 +94,7 @@ static inline u64 sediment_right(u32 h, u32 c, u32 w) {
 #define LENT_TO_WRITE(list) u32 *restrict list = on->list
 
 /* tests 13 to 15 of a step, over lists that have an entry for each of n segments: the number of the refusal, or 0 */
-LENT_CALL static u32 judge(const struct lists *on, u32 n, u32 u, u32 next, u32 done, u32 steps) {
+LENT_CALL static u32 step_test(const struct lists *on, u32 n, u32 u, u32 next, u32 done, u32 steps) {
     LENT_TO_READ(e); LENT_TO_READ(g); LENT_TO_READ(l); LENT_TO_READ(a); LENT_TO_READ(b); LENT_TO_READ(k); LENT_TO_READ(ks);
     LENT_TO_READ(h); LENT_TO_READ(m); LENT_TO_READ(s); LENT_TO_READ(cl); LENT_TO_READ(cb); LENT_TO_READ(kd); LENT_TO_READ(start);
     LENT_TO_READ(channel); LENT_TO_READ(storage); LENT_TO_READ(sediment);

@@ -58,7 +58,7 @@ int main(void) {
     text("step segment channel storage sediment\n");
     for (u32 j = 1; j <= steps; j++) {
         u32 next = upstream(rows, j);
-        if (judge(&own, n, u, next, j - 1, steps) != 0)
+        if (step_test(&own, n, u, next, j - 1, steps) != 0)
             return 1;
         sweep(&own, n, u, next);
         u = next;

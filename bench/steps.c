@@ -51,7 +51,7 @@ int main(void) {
 
         begun = seconds();
         for (int j = 0; j < STEPS; j++) {
-            if (judge(&own, n, u, u, done++, 100000) != 0)
+            if (step_test(&own, n, u, u, done++, 100000) != 0)
                 fail("a step in C is refused");
             sweep(&own, n, u, u);
         }

@@ -2,7 +2,7 @@
 
     python3 check_vectors.py PATH_TO_RIVER DIR
 
-NNNNN.otr is a sheet, NNNNN.txt its listing; answers.txt has the loader's answer for
+NNNNN.otr is a sheet, NNNNN.txt its listing; answers.txt has a loading's answer for
 each, with the place, which the listing does not show: it is compared with the model's.
 """
 from __future__ import annotations

@@ -14,7 +14,6 @@ from __future__ import annotations
 
 import argparse
 import math
-import sys
 from collections.abc import Iterator
 from dataclasses import replace
 from itertools import product
@@ -23,6 +22,8 @@ from typing import NamedTuple
 
 import model
 from model import Header, Reach, Sheet
+
+import command                      # the tools' folder is on the path since `model` was imported
 
 UVAS = Path(__file__).resolve().parent.parent / "examples"
 
@@ -296,7 +297,7 @@ def main() -> int:
         return 0
     if not asked.listing:
         parser.error("a sheet and its listing, or --report")
-    sheet, listing = Path(asked.sheet).read_bytes(), Path(asked.listing).read_text()
+    sheet, listing = command.given(asked.sheet), command.given_text(asked.listing)
     for words, scheme in (("document 01's equations, nothing rounded but flows", DOCUMENT),
                           ("document 01's exact river: half-step numbers rounded too", EXACT),
                           ("the report's scheme", REPORT)):
@@ -308,4 +309,4 @@ def main() -> int:
 
 
 if __name__ == "__main__":
-    sys.exit(main())
+    command.run(main)

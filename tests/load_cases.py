@@ -55,7 +55,7 @@ def chosen() -> Iterator[Lent]:
     yield Lent(b"")                                             # 1
     yield Lent(b"OTR")
     yield Lent(b"OTR2" + sheet[len(MARK):])
-    for cut in range(len(MARK), len(sheet), 9):                         # 2, in every section
+    for cut in range(len(MARK), len(sheet), 9):                 # 2, in every section
         yield Lent(sheet[:cut])
     for case in sheets.counted_sheets(full):                    # 3
         yield Lent(case.sheet)

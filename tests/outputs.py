@@ -53,14 +53,20 @@ def never(child: Popen, reader: FileIO) -> bytes:
     return drained(reader)
 
 
-def now_and_then(child: Popen, reader: FileIO) -> bytes:
-    """The pipe is emptied again and again while the program runs."""
-    found = b""
+def looks(child: Popen) -> Iterator[None]:
+    """Again and again while the program runs, SECONDS at most."""
     end = time.monotonic() + SECONDS
     while child.poll() is None:
         if time.monotonic() > end:
             raise TimeoutExpired(child.args, SECONDS)
         time.sleep(LOOK)
+        yield
+
+
+def now_and_then(child: Popen, reader: FileIO) -> bytes:
+    """The pipe is emptied again and again while the program runs."""
+    found = b""
+    for _ in looks(child):
         found += drained(reader)
     return found + drained(reader)
 
@@ -68,9 +74,10 @@ def now_and_then(child: Popen, reader: FileIO) -> bytes:
 def until_a_page(child: Popen, reader: FileIO) -> bytes:
     """A page is read, and then nobody reads any more."""
     found = b""
-    while len(found) < PAGE and child.poll() is None:
-        time.sleep(LOOK)
+    for _ in looks(child):
         found += drained(reader)
+        if len(found) >= PAGE:
+            break
     reader.close()
     child.wait(SECONDS)
     return found

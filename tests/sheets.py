@@ -580,7 +580,8 @@ def fullest(rng: random.Random) -> Draft:
 def broad_rivers(rng: random.Random) -> Iterator[Case]:
     """A long listing, and the highest count of steps."""
     wide = good_river(rng, MOST_GAUGES, 1_000).with_header(interval=1)
-    yield Case("a listing of 32,000 lines", write(replace(wide, gauges=list(range(1, MOST_GAUGES + 1)))), ACCEPTED)
+    yield Case(f"a listing of {MOST_GAUGES * wide.header.M:,} lines",
+               write(replace(wide, gauges=list(range(1, MOST_GAUGES + 1)))), ACCEPTED)
     most = brook(dt=1, Q=500, M=MOST_STEPS, ALPHA=100_000_000, LAMHAT=100_000_000, RHO=1_000_000, Kd=1)
     rows = [Row(0, 0), Row(10, HIGHEST), Row(MOST_STEPS // 2, 3), Row(MOST_STEPS, HIGHEST)]
     most = replace(most, rows=rows).with_header(interval=MOST_STEPS // 16)

@@ -45,7 +45,9 @@ import units
 
 ROOT = Path(__file__).resolve().parent.parent
 EXAMPLES = ROOT / "examples"
-SHEET, CURVES, PROVE = (ROOT / "tools" / name for name in ("sheet.py", "curves.py", "prove.py"))
+SHEET, CURVES, PROVE, GATE_COST = (ROOT / "tools" / name
+                                   for name in ("sheet.py", "curves.py", "prove.py", "gate_cost.py"))
+FLOAT_RIVER = ROOT / "tests" / "float_river.py"
 RIVER = ROOT / "target" / "bin" / "river"
 MOST_SHOWN = 10
 SVG = "{http://www.w3.org/2000/svg}"
@@ -63,6 +65,11 @@ def tool(*arguments: object, given: bytes = b"", encoding: str = "utf-8", **opti
     options = dict(stdout=subprocess.PIPE, stderr=subprocess.PIPE, env=os.environ) | options
     options["env"] = options["env"] | {"PYTHONIOENCODING": encoding, "PYTHONUNBUFFERED": ""}
     return subprocess.run([sys.executable, *map(str, arguments)], input=given, timeout=60, **options)
+
+
+def without(stream: int, *arguments: object) -> subprocess.CompletedProcess:
+    """Runs a tool with one of its standard streams closed."""
+    return tool(*arguments, preexec_fn=lambda: os.close(stream))
 
 
 def closed_pipe(*arguments: object, **options: Any) -> tuple[int, bytes]:
@@ -207,7 +214,8 @@ def file_checks() -> Iterator[Check]:
                 (none, missing, CURVES, listing, "--sheet", none), (folder, directory, SHEET, "explain", folder),
                 (folder, directory, CURVES, listing, "--sheet", folder),
                 (none / "b", missing, SHEET, "make", text, "-o", none / "b"),
-                (none / "b", missing, *show, "-o", none / "b")):
+                (none / "b", missing, *show, "-o", none / "b"), (none, missing, GATE_COST, none),
+                (none, missing, FLOAT_RIVER, none, listing), (none, missing, FLOAT_RIVER, sheet, none)):
             ran = tool(*arguments)
             yield Check(f"{arguments}: in one line", (ran.returncode, ran.stdout, ran.stderr.decode()),
                         (1, b"", f"{path}: {words}\n"))
@@ -222,8 +230,45 @@ def file_checks() -> Iterator[Check]:
             yield Check(f"{arguments}: a closed pipe", closed_pipe(*arguments), (command.CLOSED_PIPE, b""))
         with open("/dev/full", "wb") as full:
             ran = tool(*show, stdout=full)
-        yield Check("a full disk", (ran.returncode, ran.stderr),
-                    (1, b"standard input or output: No space left on device\n"))
+        yield Check("a full disk", (ran.returncode, ran.stderr), (1, b"standard output: No space left on device\n"))
+        yield from stream_checks(sheet, text, listing)
+
+
+def stream_checks(sheet: Path, text: Path, listing: Path) -> Iterator[Check]:
+    """A disk that is full, streams that are closed, and - for a file."""
+    full, picture = Path("/dev/full"), sheet.with_suffix(".svg")
+    show = (CURVES, listing, "--sheet", sheet)
+    for arguments in ((SHEET, "make", text), (SHEET, "read", sheet), show):
+        ran = tool(*arguments, "-o", full)
+        yield Check(f"{arguments}: a full disk", (ran.returncode, ran.stdout, ran.stderr),
+                    (1, b"", b"/dev/full: No space left on device\n"))
+        with open(full, "wb") as out:
+            ran = tool(*arguments, "-o", "-", stdout=out)
+        yield Check(f"{arguments}: a full disk, -", (ran.returncode, ran.stderr),
+                    (1, b"standard output: No space left on device\n"))
+        ran = without(1, *arguments, "-o", "-")
+        yield Check(f"{arguments}: no standard output", (ran.returncode, ran.stderr),
+                    (1, b"standard output: Bad file descriptor\n"))
+    for arguments in ((SHEET, "explain", sheet), show, (*show, "-o", picture)):
+        for stream in (1, 2):
+            ran = without(stream, *arguments)
+            yield Check(f"{arguments}: without stream {stream}", (ran.returncode, ran.stderr), (0, b""))
+    missing = (SHEET, "read", sheet.with_name("none"))
+    ran = without(2, *missing)
+    yield Check("no standard error", (ran.returncode, ran.stdout), (1, b""))
+    with open(full, "wb") as out:
+        yield Check("standard error on a full disk", tool(*missing, stderr=out).returncode, 1)
+    ran = without(0, SHEET, "read", "-")
+    yield Check("no standard input", (ran.returncode, ran.stderr), (1, b"standard input: Bad file descriptor\n"))
+    ran = tool(CURVES, listing, "--sheet", "-", "-o", "-", given=sheet.read_bytes())
+    yield Check("curves.py: - for sheet and picture", (ran.returncode, ran.stdout, ran.stderr),
+                (0, picture.read_bytes(), b""))
+    ran = tool(CURVES, listing, "--sheet", "-", given=b"OTR2")
+    yield Check("curves.py: - is no sheet", (ran.returncode, ran.stderr),
+                (1, b"standard input is refused 1; tools/sheet.py explain says why\n"))
+    ran = tool(CURVES, "--sheet", "-", given=sheet.read_bytes())
+    yield Check("curves.py: - twice", (ran.returncode, b"cannot both come from standard input" in ran.stderr),
+                (2, True))
 
 
 def two_plain_reaches() -> Draft:
@@ -322,6 +367,7 @@ def told_of_sheets() -> Iterator[tuple[bytes, str, tuple[str, ...]]]:
 LONGEST_DX = "the longest dx for which the whole river passes 11, all else unchanged: "
 LONGEST_DT = "the longest dt for which the whole river passes 12, all else unchanged: "
 WITH_THAT_DX = "the longest dt for which the whole river passes 12 with that dx: "
+NO_RIVER = "the longest dx and dt: not to be told while the reaches or the flow at the top are out of range"
 
 
 def told_of_longest() -> Iterator[tuple[str, Draft, list[str]]]:
@@ -343,7 +389,7 @@ def told_of_longest() -> Iterator[tuple[str, Draft, list[str]]]:
     yield "refused 9", replace(brook(dt=2, Q=100), gauges=[2]), [f"{LONGEST_DX}100 cm (1 m)", f"{LONGEST_DT}3 s"]
     for number, draft in ((5, base.with_header(top_flow=model.HIGHEST_FLOW + 1)), (6, base.with_reach(1, A=0)),
                           (7, still_reaches(1_024, 1))):
-        yield f"refused {number}", draft, []            # no river to speak of
+        yield f"refused {number}", draft, [NO_RIVER]
 
 
 def passes_11(draft: Draft, dx: int) -> bool:
@@ -379,6 +425,9 @@ def longest_checks() -> Iterator[Check]:
         lines = explain.words(write(draft)).split("\n")
         told = [line.strip() for line in lines if line.startswith("  the longest ")]
         yield Check(f"longest: {first}, {wanted}", (lines[0].split(",")[0], told), (first, wanted))
+    for sheet, first, _ in told_of_sheets():
+        if first in ("refused 1", "refused 2", "refused 3", "refused 4"):
+            yield Check(f"longest: {first}, nothing", "the longest" in explain.words(sheet), False)
     rng = random.Random("longest")
     rivers = [passes_long_but_not_shorter(), passes_long_but_not_shorter().with_header(top_flow=999)]
     for _ in range(12):
@@ -488,6 +537,12 @@ def shown(listing: str, **options: Any) -> curves.Show:
     return curves.Show(curves.read_listing(listing), argparse.Namespace(**(default | options)))
 
 
+def short_spells(steps: int) -> str:
+    """A listing of 12,000 lines, so many steps apart: above 1 ng/L in one line, and again 15 lines later."""
+    lines = [f"{at * steps} 1 {2 if at in (5_000, 5_015) else 0} 0 0\n" for at in range(1, 12_001)]
+    return "".join([f"{model.HEADING}\n", *lines, f"done {12_000 * steps}\n"])
+
+
 def cells(line: str) -> list[str]:
     return re.split(r"   +", line.strip())
 
@@ -574,6 +629,23 @@ def table_checks() -> Iterator[Check]:
                  " 30 m                                         50.00 min   still above at the end",
                  " 80 m        1.4 mg/L   40.00 min           never above"])
     yield Check("two spills, as docs/TOOLS.md shows them", two.table("channel") in blocks("docs/TOOLS.md"), True)
+    for dt, steps, times in (
+            (1, 1, ["1.3889 h", "1.3892 h", "1.3931 h", "1.3933 h"]),           # 0.36 s in the last digit
+            (10, 1, ["13.889 h", "13.892 h", "13.931 h", "13.933 h"]),
+            (1, 10, ["13.889 h", "13.892 h", "13.931 h", "13.933 h"])):
+        table = shown(short_spells(steps), dt=dt, limit=1).table("channel")
+        yield Check(f"two short spells, {dt} s x {steps}", [cells(line)[-2:] for line in table[1:]],
+                    [times[:2], times[2:]])
+    yield Check("a line every 36 s", shown(short_spells(36), dt=1, clock=8.255).clock.words(36), "8.265 h")
+    one_line = shown(f"{model.HEADING}\n12000 1 0 0 0\ndone 12000\n", dt=1)
+    yield Check("one line", one_line.clock.words(12_000), "3.3333 h")
+    same = shown(f"{model.HEADING}\n12000 1 0 0 0\n12000 1 0 0 0\ndone 12000\n", dt=1)
+    yield Check("a step twice", same.clock.words(12_000), "3.3333 h")
+    for limit, words in ((1_234_567, "1.234567 mg/L"), (999_999_999, "999.999999 mg/L"),
+                         (Fraction(12_345_678_905, 10), "about 1234.56789 mg/L")):
+        close = shown(TWO_SPILLS, limit=Fraction(limit))
+        yield Check(f"limit of {words}", [words in close.table("channel")[0], f">limit {words}<" in close.svg(),
+                                          f">above {words}<" in close.svg()], [True] * 3)
     storage = shown(TWO_SPILLS, show=["storage"], limit=1).table("storage")
     yield Check("the limit is for the channel", cells(storage[0]), ["gauge", "peak, storage", "first at"])
     rng = random.Random("spells")

@@ -1,11 +1,13 @@
 """What the commands have in common: reading files and texts, and an end in one line where that cannot be done."""
 from __future__ import annotations
 
+import errno
 import os
 import sys
-from collections.abc import Callable
+from collections.abc import Callable, Iterator
+from contextlib import contextmanager
 from pathlib import Path
-from typing import NoReturn
+from typing import BinaryIO, NoReturn, Optional, TextIO
 
 INTERRUPTED, CLOSED_PIPE = 130, 141         # exit statuses as a shell has them: 128 and the signal's number
 
@@ -14,9 +16,33 @@ class Stop(Exception):
     """A command cannot go on; the words are the one line that it ends in."""
 
 
+def source(path: str) -> str:
+    """What a file to read is called."""
+    return "standard input" if path == "-" else path
+
+
+@contextmanager
+def named(name: str) -> Iterator[None]:
+    """What cannot be read or written here ends the command in a line with this name; a closed pipe does not."""
+    try:
+        yield
+    except BrokenPipeError:
+        raise
+    except OSError as fault:
+        raise Stop(f"{name}: {fault.strerror}") from fault
+
+
+def bytes_of(stream: Optional[TextIO]) -> BinaryIO:
+    """A standard stream for bytes; Python has none where it was closed before the start."""
+    if stream is None:
+        raise OSError(errno.EBADF, os.strerror(errno.EBADF))
+    return stream.buffer
+
+
 def given(path: str) -> bytes:
     """The content of a file; - is standard input."""
-    return sys.stdin.buffer.read() if path == "-" else Path(path).read_bytes()
+    with named(source(path)):
+        return bytes_of(sys.stdin).read() if path == "-" else Path(path).read_bytes()
 
 
 def given_text(path: str) -> str:
@@ -31,23 +57,37 @@ def given_text(path: str) -> str:
 
 def put(path: str, content: bytes) -> None:
     """Writes a file; - is standard output."""
-    if path == "-":
-        sys.stdout.buffer.write(content)
-    else:
-        Path(path).write_bytes(content)
+    with named("standard output" if path == "-" else path):
+        if path == "-":
+            out = bytes_of(sys.stdout)
+            out.write(content)
+            out.flush()
+        else:
+            Path(path).write_bytes(content)
+
+
+def give_up(stream: TextIO) -> None:
+    """What is left in a stream that failed is not tried once more."""
+    os.dup2(os.open(os.devnull, os.O_WRONLY), stream.fileno())
 
 
 def say(line: str) -> None:
-    print(line, file=sys.stderr)
+    """On standard error; where that fails nothing can be said."""
+    if sys.stderr:                                          # print would take standard output instead
+        try:
+            print(line, file=sys.stderr)
+        except OSError:
+            give_up(sys.stderr)
 
 
 def run(main: Callable[[], int]) -> NoReturn:
     """Ends with main's status; what cannot be read or written ends it in one line, a closed pipe in none."""
-    for stream in (sys.stdout, sys.stderr):
+    for stream in filter(None, (sys.stdout, sys.stderr)):   # one that is closed is None
         stream.reconfigure(errors="replace")                # a terminal without × shows another sign
     try:
         status = main()
-        sys.stdout.flush()
+        if sys.stdout:
+            sys.stdout.flush()
         sys.exit(status)
     except BrokenPipeError:
         status = CLOSED_PIPE
@@ -57,7 +97,8 @@ def run(main: Callable[[], int]) -> NoReturn:
         say(str(stop))
         status = 1
     except OSError as fault:
-        say(f"{fault.filename or 'standard input or output'}: {fault.strerror}")
+        say(f"{fault.filename or 'standard output'}: {fault.strerror}")
         status = 1
-    os.dup2(os.open(os.devnull, os.O_WRONLY), sys.stdout.fileno())  # what is left there is not tried once more
+    if sys.stdout:
+        give_up(sys.stdout)
     sys.exit(status)

@@ -12,7 +12,7 @@ import argparse
 import sys
 from dataclasses import dataclass, field
 from fractions import Fraction
-from pathlib import Path
+from itertools import count
 from typing import NamedTuple, Optional
 
 import command
@@ -67,6 +67,12 @@ def read_listing(text: str) -> list[Gauge]:
     return list(gauges.values())
 
 
+def least_apart(gauges: list[Gauge]) -> int:
+    """The fewest steps between two lines of a gauge; 1 where no gauge has two."""
+    return min((after - before for gauge in gauges for before, after in zip(gauge.steps, gauge.steps[1:])
+                if after > before), default=1)
+
+
 class Clock(NamedTuple):
     """Times of steps in a unit that suits the run; `start` is the time at step 0, in seconds."""
 
@@ -74,12 +80,15 @@ class Clock(NamedTuple):
     start: float
     unit: str
     seconds: int
+    decimals: int                           # enough to tell two lines of the listing apart
 
     @classmethod
-    def for_run(cls, dt: int, last_step: int, start_hour: Optional[float]) -> Clock:
-        length = dt * last_step
+    def for_run(cls, dt: int, gauges: list[Gauge], start_hour: Optional[float]) -> Clock:
+        length, apart = dt * max(gauge.steps[-1] for gauge in gauges), dt * least_apart(gauges)
         unit = "h" if start_hour is not None or length > 3 * 3600 else "min" if length > 3 * 60 else "s"
-        return cls(dt, 3600 * (start_hour or 0.0), unit, {"h": 3600, "min": 60, "s": 1}[unit])
+        seconds = {"h": 3600, "min": 60, "s": 1}[unit]
+        decimals = next(places for places in count(2) if apart * 10 ** places > seconds)
+        return cls(dt, 3600 * (start_hour or 0.0), unit, seconds, decimals)
 
     @property
     def label(self) -> str:
@@ -89,7 +98,7 @@ class Clock(NamedTuple):
         return (self.start + self.dt * step) / self.seconds
 
     def words(self, step: int) -> str:
-        return f"{self.at(step):.4g} {self.unit}" if self.unit == "s" else f"{self.at(step):.2f} {self.unit}"
+        return f"{self.at(step):{'.4g' if self.unit == 's' else f'.{self.decimals}f'}} {self.unit}"
 
 
 class Scale(NamedTuple):
@@ -104,8 +113,12 @@ class Scale(NamedTuple):
         power = max(at for at in range(3) if at == 0 or highest >= 1000 ** at)
         return cls(SCALES[name][power], 1000 ** power)
 
-    def words(self, figure: int | Fraction) -> str:
-        return f"{float(figure / self.size):.5g} {self.unit}"
+    def words(self, figure: int) -> str:
+        return f"{figure / self.size:.5g} {self.unit}"
+
+    def limit_words(self, limit: Fraction) -> str:
+        """With up to nine digits: all of a limit in whole ng/L that a figure can be above."""
+        return f"{units.about(Fraction(limit, self.size))} {self.unit}"
 
 
 class Spell(NamedTuple):
@@ -143,8 +156,8 @@ class Show:
             found = accepted_sheet(asked.sheet)
             dt, self.dx = found.header.dt, found.header.dx
             if [gauge.segment for gauge in gauges] != found.gauges:
-                raise BadListing(f"the listing's gauges are not those of {asked.sheet}")
-        self.clock = Clock.for_run(dt, max(gauge.steps[-1] for gauge in gauges), asked.clock)
+                raise BadListing(f"the listing's gauges are not those of {command.source(asked.sheet)}")
+        self.clock = Clock.for_run(dt, gauges, asked.clock)
         self.scales = {name: Scale.for_figures(name, max([*(max(gauge.figures[name]) for gauge in gauges),
                                                           self.limit_of(name) or 0])) for name in self.names}
 
@@ -162,7 +175,7 @@ class Show:
         scale, limit = self.scales[name], self.limit_of(name)
         rows = [["gauge", f"peak, {name}", "first at"]]
         if limit is not None:
-            rows[0] += [f"above {scale.words(limit)} from", "until"]
+            rows[0] += [f"above {scale.limit_words(limit)} from", "until"]
         for gauge in self.gauges:
             peak = max(gauge.figures[name])
             at = gauge.steps[gauge.figures[name].index(peak)]
@@ -215,8 +228,9 @@ class Show:
             panel = svg_chart.Panel(f"{self.title}: {name}" if self.title else name.capitalize(), self.clock.label,
                                     f"{name} concentration, {scale.unit}", self.clock.at(0), lines)
             if limit is not None:
-                panel = panel._replace(limit=float(limit / scale.size), limit_name=f"limit {scale.words(limit)}",
-                                       bars_name=f"above {scale.words(limit)}")
+                words = scale.limit_words(limit)
+                panel = panel._replace(limit=float(limit / scale.size), limit_name=f"limit {words}",
+                                       bars_name=f"above {words}")
             panels.append(panel)
         return svg_chart.picture(panels, self.clock.unit == "h")
 
@@ -234,9 +248,10 @@ class Show:
 
 def accepted_sheet(path: str) -> model.Sheet:
     try:
-        return model.read_sheet(Path(path).read_bytes())
+        return model.read_sheet(command.given(path))
     except model.Refusal as refusal:
-        raise command.Stop(f"{path} is refused {refusal.number}; tools/sheet.py explain says why") from refusal
+        raise command.Stop(f"{command.source(path)} is refused {refusal.number}; "
+                           "tools/sheet.py explain says why") from refusal
 
 
 def limit_figure(text: str) -> Fraction:
@@ -266,7 +281,7 @@ def arguments() -> argparse.Namespace:
     times = parser.add_mutually_exclusive_group(required=True)
     times.add_argument("--sheet", help="the listing's sheet: gives the step, and gauges in metres")
     times.add_argument("--dt", type=seconds, help="the step in seconds")
-    parser.add_argument("-o", "--output", help="write the curves here, as SVG")
+    parser.add_argument("-o", "--output", help="write the curves here, as SVG; with - nothing else is printed")
     parser.add_argument("--show", nargs="+", choices=SHOWN, default=["channel"], help="what to show")
     parser.add_argument("--limit", type=limit_figure, help="a limit for the channel, with its unit: '10 mg/L'")
     parser.add_argument("--clock", type=float, help="the hour at step 0; times are shown on that clock")
@@ -275,6 +290,8 @@ def arguments() -> argparse.Namespace:
     asked = parser.parse_args()
     if asked.limit is not None and "channel" not in asked.show:
         parser.error("--limit is a limit for the channel, and --show leaves the channel out")
+    if asked.listing == asked.sheet == "-":
+        parser.error("the listing and its sheet cannot both come from standard input")
     return asked
 
 
@@ -282,7 +299,9 @@ def main() -> int:
     asked = arguments()
     show = Show(read_listing(command.given_text(asked.listing)), asked)
     if asked.output:
-        Path(asked.output).write_text(show.svg(), encoding="utf-8")
+        command.put(asked.output, show.svg().encode("utf-8"))
+    if asked.output == "-" or not sys.stdout:
+        return 0
     unicode = (sys.stdout.encoding or "").lower().startswith("utf")
     out: list[str] = []
     for name in show.names:

@@ -425,6 +425,9 @@ def has_river(found: Sheet) -> bool:
 
 def longest_words(found: Sheet) -> Iterator[str]:
     """The longest dx and dt that pass, each with all else unchanged; dt with that dx too, where dx must change."""
+    if not has_river(found):
+        yield "the longest dx and dt: not to be told while the reaches or the flow at the top are out of range"
+        return
     own = model.reach_of_segments(found.reaches)
     gains, AD = model.gains(own), model.dispersion_around(own)
     dx = longest_segments(found)
@@ -449,5 +452,5 @@ def words(sheet: bytes) -> str:
     lines = [refusal_words(refused) if refused else accepted_words(sheet)]
     if not refused or refused[0].number not in BYTE_TESTS:
         found = model.walk(Walk(sheet))
-        lines += [f"  {line}" for line in longest_words(found)] if has_river(found) else []
+        lines += [f"  {line}" for line in longest_words(found)]
     return "\n".join(lines)

@@ -6,9 +6,11 @@ Lines are those that are not blank: code and contracts in src/, definitions in s
 """
 from __future__ import annotations
 
+import argparse
 import re
-import sys
 from pathlib import Path
+
+import command
 
 ROOT = Path(__file__).resolve().parent.parent
 PROVED = re.compile(r"^rt: (\w+) proved \((\d+) s\)$")
@@ -23,20 +25,24 @@ def crates() -> list[str]:
 def lines(crate: str, folder: str) -> int:
     """The lines of a crate's folder that are not blank."""
     files = (ROOT / "crates" / crate / folder).rglob("*")
-    return sum(1 for file in files if file.suffix in (".rt", ".antt") for line in file.read_text().splitlines() if line.strip())
+    return sum(1 for file in files if file.suffix in (".rt", ".antt")
+               for line in file.read_text().splitlines() if line.strip())
 
 
-def main() -> None:
+def main() -> int:
+    parser = argparse.ArgumentParser(description="Prints what the gate costs, as a Markdown table.")
+    parser.add_argument("log", help="what the gate printed; - is standard input")
+    log = command.given_text(parser.parse_args().log)
     proved: dict[str, int] = {}
     edits: dict[str, list[int]] = {}
-    for line in Path(sys.argv[1]).read_text().splitlines():
+    for line in log.splitlines():
         if found := PROVED.match(line):
             proved[found[1]] = int(found[2])
         elif found := EDIT.match(line):
             edits.setdefault(found[1], []).append(int(found[2]))
     missing = [crate for crate in crates() if crate not in proved]
     if missing:
-        sys.exit(f"the log does not say that these were proved: {', '.join(missing)}")
+        raise command.Stop(f"the log does not say that these were proved: {', '.join(missing)}")
     print("| crate | check, s | edits | edits, s | code | definitions | proofs |")
     print("|---|---|---|---|---|---|---|")
     total = [0] * 6
@@ -46,7 +52,8 @@ def main() -> None:
         total = [a + b for a, b in zip(total, row)]
         print(f"| `{crate}` | " + " | ".join(f"{n:,}" for n in row) + " |")
     print("| all | " + " | ".join(f"{n:,}" for n in total) + " |")
+    return 0
 
 
 if __name__ == "__main__":
-    main()
+    command.run(main)

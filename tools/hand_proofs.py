@@ -1088,12 +1088,12 @@ def load_lists():
         w.split("tokens", "sheet-alive", "lists-alive") + w.join("lent-alive", "lists-alive", "others") + w.join("sheet-alive", "others", "alive")
         + w.split("owns", "sheet", "lists", rule="fsplit") + w.join("table", "lists", "lists", rule="fjoin") + w.move("alive", "sheet", "lists")
     )
-    w.line("use3 W (raw (Loader 𝓤 H A at-mem run .pre (to-load α l16 γ)) ⊛ ‵ Sheet) (goes-load α l16 γ) $ split ! $")
+    w.line("use3 W (raw (Loading 𝓤 H A at-mem run .pre (to-load α l16 γ)) ⊛ ‵ Sheet) (goes-load α l16 γ) $ split ! $")
     w.replace(3, "pre", "sheet")
-    w.line(f"calls-at ! fm (Loader 𝓤 H A at-mem run) known-loader (to-load α l16 γ) {w.locals('_1', lent, *[f'_{21 + 2 * j}' for j in range(n)])} (λ u.")
-    w.line(f"use1 W (later (some (λ (r : Load). ({all_tokens} ⊛ ‵ (S.the-row .own r (u ∷ []))) ⊛ raw (ensured 𝓤 H A loader.ended (loader.clauses 𝓤 H A at-mem run) (load-κs α) (load-args l16 γ) tt r)))) (id⊢ 𝓤 _) $ await ! tt $ pick ! (λ r.")
+    w.line(f"calls-at ! fm (Loading 𝓤 H A at-mem run) known-loading (to-load α l16 γ) {w.locals('_1', lent, *[f'_{21 + 2 * j}' for j in range(n)])} (λ u.")
+    w.line(f"use1 W (later (some (λ (r : Load). ({all_tokens} ⊛ ‵ (S.the-row .own r (u ∷ []))) ⊛ raw (ensured 𝓤 H A loading.ended (loading.clauses 𝓤 H A at-mem run) (load-κs α) (load-args l16 γ) tt r)))) (id⊢ 𝓤 _) $ await ! tt $ pick ! (λ r.")
     w.replace(1, "result", "says")
-    text = "split ! $ " + w.move("says") + "use1 W (some (λ (ws : Unit {0} × (List Reach × Lists 14)). ‵ (lasts loader.ended (load-κs α) (load-args l16 γ) ws) ⊛ (raw (fact 𝓤 (Answer r)) ⊛ (raw (fact 𝓤 (Written (ws .1 .1))) ⊛ raw (fact 𝓤 (Filled (ws .1 .0))))))) (id⊢ 𝓤 _) $ pick ! (λ ws. split ! $ "
+    text = "split ! $ " + w.move("says") + "use1 W (some (λ (ws : Unit {0} × (List Reach × Lists 14)). ‵ (lasts loading.ended (load-κs α) (load-args l16 γ) ws) ⊛ (raw (fact 𝓤 (Answer r)) ⊛ (raw (fact 𝓤 (Written (ws .1 .1))) ⊛ raw (fact 𝓤 (Filled (ws .1 .0))))))) (id⊢ 𝓤 _) $ pick ! (λ ws. split ! $ "
     w.replace(1, "lasts", "says")
     text += w.split("says", "answers", "says") + "heard ! (Answer r) (λ answers. "
     w.replace(1)
@@ -1162,8 +1162,8 @@ module _ {MODEL} (W : Given 𝓤 H A) where
       mach l = only (array-vals (LL.vals T.the-type T′.the-laws) l)
 
 module _ {MODEL} {RUN} where
-  abbrev Loader : Contract 𝓤
-  Loader = tripleOf 𝓤 H A loader.signature (loader.spec 𝓤 H A at-mem run)
+  abbrev Loading : Contract 𝓤
+  Loading = tripleOf 𝓤 H A loading.signature (loading.spec 𝓤 H A at-mem run)
 
 module _ {MODEL} (W : Given 𝓤 H A) {RUN}
     (κs : Lfts 15) (qs : Shares 15) (y : RefT (List ℕ)) (z : Refs 14) (y-room : Room u8 (length (y .now))) (z-room : Rooms 14 z) where
@@ -1189,17 +1189,17 @@ module _ {MODEL} (W : Given 𝓤 H A) {RUN}
   abbrev load-args : ℕ → GName → RefT (List ℕ) × (RefT (List Reach) × Refs 14)
   load-args l γ = (y, (x l γ, z))
 
-  abbrev to-load : ℕ → ℕ → GName → Loader 𝓤 H A at-mem run .Ghost
+  abbrev to-load : ℕ → ℕ → GName → Loading 𝓤 H A at-mem run .Ghost
   to-load α l γ = ((load-κs α, (qs .0, (fullShare, qs .1)), tt, load-args l γ, ({SHEET} ∷ [], (sliceVal (l, 0) 64 ∷ [], values 14 z))), tt)
 
   abbrev Lent : ℕ → ℕ → GName → Fml
   Lent α l γ = fsep (MutSlice (named 0) (α ∷ []) T.the-row .own (x l γ) (sliceVal (l, 0) 64 ∷ [])) (owns (rows 14 (κs .1)) z (values 14 z))
 
-  goes-load : (α l : ℕ) (γ : GName) → ent 𝓤 (sep 𝓤 (sep 𝓤 (A .lft (κs .0) (qs .0)) (sep 𝓤 (A .lft (α ∷ []) fullShare) (toks 𝓤 A 14 (κs .1) (qs .1)))) (sep 𝓤 (sem 𝓤 H A Sheet) (sem 𝓤 H A (Lent α l γ)))) (sep 𝓤 (Loader 𝓤 H A at-mem run .pre (to-load α l γ)) (sem 𝓤 H A Sheet))
+  goes-load : (α l : ℕ) (γ : GName) → ent 𝓤 (sep 𝓤 (sep 𝓤 (A .lft (κs .0) (qs .0)) (sep 𝓤 (A .lft (α ∷ []) fullShare) (toks 𝓤 A 14 (κs .1) (qs .1)))) (sep 𝓤 (sem 𝓤 H A Sheet) (sem 𝓤 H A (Lent α l γ)))) (sep 𝓤 (Loading 𝓤 H A at-mem run .pre (to-load α l γ)) (sem 𝓤 H A Sheet))
   goes-load α l γ =
       qed W ({all_tokens} ∷ ‵ Sheet ∷ ‵ (Lent α l γ) ∷ []) ∵ move ! (1 ∷ []) $
       use1 W (‵ Sheet ⊛ ‵ Sheet) (shr-slice-copy 𝓤 H A W (named 0) (κs .0) u8 .twice y ({SHEET} ∷ [])) $ split ! $ move ! (0 ∷ 3 ∷ []) $ fjoin ! $ move ! (2 ∷ 0 ∷ []) $
-      use2 W (raw (Loader 𝓤 H A at-mem run .pre (to-load α l γ))) (qed W ({all_tokens} ∷ ‵ (fsep Sheet (Lent α l γ)) ∷ []) ∵ join ! $ frame ! $ done !) $ frame ! $ done !
+      use2 W (raw (Loading 𝓤 H A at-mem run .pre (to-load α l γ))) (qed W ({all_tokens} ∷ ‵ (fsep Sheet (Lent α l γ)) ∷ []) ∵ join ! $ frame ! $ done !) $ frame ! $ done !
 
   abbrev Answer : Load → Type 0
   Answer r = loadSays r ≡ loadAnswer (y .now) 64 (before z)
@@ -1215,7 +1215,7 @@ module _ {MODEL} (W : Given 𝓤 H A) {RUN}
       qed W ({kept}) ∵ suffices ! _ (ends-at 𝓤 H A the-fn.ended stayed (the-fn.clauses 𝓤 H A at-mem run) W ((κs, qs, tt, a, at), tt) u r (tt, ws) (tt, same)) $
       says-all ! (and-fact 𝓤 answers (and-fact 𝓤 writes (one-fact 𝓤 (λ records enough. answers ∙ room (y .now) (before z) records enough)))) $ frame ! $ fjoin ! $ frame ! $ done !
 
-  module _ (𝓣 : Tables 𝓤 H) (known-loader : Triple 𝓤 (𝓣 .C #loader) (Loader 𝓤 H A at-mem run)) where
+  module _ (𝓣 : Tables 𝓤 H) (known-loading : Triple 𝓤 (𝓣 .C #loading) (Loading 𝓤 H A at-mem run)) where
     abbrev fm : FmC 𝓤 H (W .laws) (𝓣 .C)
     fm = fmOf 𝓤 H (W .laws) 𝓣
 
@@ -1230,14 +1230,14 @@ module _ {MODEL} (W : Given 𝓤 H A) {RUN}
         ["slice-vals"] * 15,
         ["shr-slice-tells (named 0) (κs .0) u8"] + [f"mut-slice-tells (named {j + 1}) {part('κs', j + 1)} u32" for j in range(n)],
         "κs qs (a .0) (a .1) (are .0 .0 .1) " + tuple_of([f"are{' .1' * (j + 1)} .0 .0 .1" for j in range(n)]),
-        [("loader", "Loader", "calls-loading·load")],
+        [("loading", "Loading", "calls-loading·load")],
     )
     write(
         "loading",
         "load_lists",
         "-- `load_lists` meets its contract: its list of reach records is an array in a local, which is lent to `load` for a lifetime that is made\n-- for the call, and is the function's own again when that ends.",
         IMPORTS_LOAD + IMPORTS_REACH + "use Rattle.records.specs.Records.{noReach}\nuse Rattle.records.proofs.NoReach.{none-val, none-is}\n"
-        + callee_imports("Rattle.loading.proofs.load", "loader") + "use Rattle.loading.proofs.Room.{room}\n"
+        + callee_imports("Rattle.loading.proofs.load", "loading") + "use Rattle.loading.proofs.Room.{room}\n"
         + LENT + own_imports("loading", "load_lists", code=False),
         body,
     )
@@ -1270,12 +1270,12 @@ def exported_load():
     for k, name in enumerate(OUT):
         text += w.split("tokens", f"{name}-alive", "tokens") + w.split("owns", name, "owns", rule="fsplit")
     w.line(text + w.split("owns", "sheet", "owns", rule="fsplit") + w.move("tokens", "sheet", "owns"))
-    w.line("use3 W (raw (Loader 𝓤 H A at-mem run .pre to-load) ⊛ ‵ Sheet) goes-load $ split ! $")
+    w.line("use3 W (raw (Loading 𝓤 H A at-mem run .pre to-load) ⊛ ‵ Sheet) goes-load $ split ! $")
     w.replace(3, "pre", "sheet")
-    w.line(f"calls-at ! fm (Loader 𝓤 H A at-mem run) known-loader to-load {w.locals(sheet, '_23', *[f'_{25 + 2 * j}' for j in range(n)])} (λ u.")
-    w.line("use1 W (later (some (λ (r : Load). (raw (toks 𝓤 A 16 κs qs) ⊛ ‵ (S.the-row .own r (u ∷ []))) ⊛ raw (ensured 𝓤 H A loader.ended (loader.clauses 𝓤 H A at-mem run) κs load-args tt r)))) (id⊢ 𝓤 _) $ await ! tt $ pick ! (λ r.")
+    w.line(f"calls-at ! fm (Loading 𝓤 H A at-mem run) known-loading to-load {w.locals(sheet, '_23', *[f'_{25 + 2 * j}' for j in range(n)])} (λ u.")
+    w.line("use1 W (later (some (λ (r : Load). (raw (toks 𝓤 A 16 κs qs) ⊛ ‵ (S.the-row .own r (u ∷ []))) ⊛ raw (ensured 𝓤 H A loading.ended (loading.clauses 𝓤 H A at-mem run) κs load-args tt r)))) (id⊢ 𝓤 _) $ await ! tt $ pick ! (λ r.")
     w.replace(1, "result", "says")
-    text = "split ! $ " + w.move("says") + "use1 W (some (λ (ws : Unit {0} × (List Reach × Lists 14)). ‵ (lasts loader.ended κs load-args ws) ⊛ (raw (fact 𝓤 (Answer r)) ⊛ (raw (fact 𝓤 (Written (ws .1 .1))) ⊛ raw (fact 𝓤 (Filled (ws .1 .0))))))) (id⊢ 𝓤 _) $ pick ! (λ ws. split ! $ "
+    text = "split ! $ " + w.move("says") + "use1 W (some (λ (ws : Unit {0} × (List Reach × Lists 14)). ‵ (lasts loading.ended κs load-args ws) ⊛ (raw (fact 𝓤 (Answer r)) ⊛ (raw (fact 𝓤 (Written (ws .1 .1))) ⊛ raw (fact 𝓤 (Filled (ws .1 .0))))))) (id⊢ 𝓤 _) $ pick ! (λ ws. split ! $ "
     w.replace(1, "lasts", "says")
     text += w.split("says", "answers", "says") + "heard ! (Answer r) (λ answers. "
     w.replace(1)
@@ -1358,8 +1358,8 @@ Outs = Unit {{0}} × (ℕ × (ℕ × (ℕ × (List ℕ × Unit {{0}}))))
 
 {UNIT_TYPED}
 module _ {MODEL} {RUN} where
-  abbrev Loader : Contract 𝓤
-  Loader = tripleOf 𝓤 H A loader.signature (loader.spec 𝓤 H A at-mem run)
+  abbrev Loading : Contract 𝓤
+  Loading = tripleOf 𝓤 H A loading.signature (loading.spec 𝓤 H A at-mem run)
 
   abbrev Put : Contract 𝓤
   Put = tripleOf 𝓤 H A put.signature (put.spec 𝓤 H A at-mem run)
@@ -1388,14 +1388,14 @@ module _ {MODEL} (W : Given 𝓤 H A) {RUN}
   Lent = fsep (MutSlice (named 0) (κs .1 .0) T.the-row .own x ({slice_value('x')} ∷ [])) (owns (rows 14 (κs .1 .1)) z (values 14 z))
 
   -- `loading::load`: what its triple binds outside, and what it says of its answer, of the lists and of the reach records
-  abbrev to-load : Loader 𝓤 H A at-mem run .Ghost
+  abbrev to-load : Loading 𝓤 H A at-mem run .Ghost
   to-load = ((κs, qs, tt, load-args, load-at), tt)
 
-  goes-load : ent 𝓤 (sep 𝓤 (toks 𝓤 A 16 κs qs) (sep 𝓤 (sem 𝓤 H A Sheet) (sem 𝓤 H A Lent))) (sep 𝓤 (Loader 𝓤 H A at-mem run .pre to-load) (sem 𝓤 H A Sheet))
+  goes-load : ent 𝓤 (sep 𝓤 (toks 𝓤 A 16 κs qs) (sep 𝓤 (sem 𝓤 H A Sheet) (sem 𝓤 H A Lent))) (sep 𝓤 (Loading 𝓤 H A at-mem run .pre to-load) (sem 𝓤 H A Sheet))
   goes-load =
       qed W (raw (toks 𝓤 A 16 κs qs) ∷ ‵ Sheet ∷ ‵ Lent ∷ []) ∵ move ! (1 ∷ []) $
       use1 W (‵ Sheet ⊛ ‵ Sheet) (shr-slice-copy 𝓤 H A W (named 0) (κs .0) u8 .twice y ({SHEET} ∷ [])) $ split ! $ move ! (0 ∷ 3 ∷ []) $ fjoin ! $ move ! (2 ∷ 0 ∷ []) $
-      use2 W (raw (Loader 𝓤 H A at-mem run .pre to-load)) (qed W (raw (toks 𝓤 A 16 κs qs) ∷ ‵ (fsep Sheet Lent) ∷ []) ∵ join ! $ frame ! $ done !) $ frame ! $ done !
+      use2 W (raw (Loading 𝓤 H A at-mem run .pre to-load)) (qed W (raw (toks 𝓤 A 16 κs qs) ∷ ‵ (fsep Sheet Lent) ∷ []) ∵ join ! $ frame ! $ done !) $ frame ! $ done !
 
   abbrev Answer : Load → Type 0
   Answer r = loadSays r ≡ loadAnswer (y .now) (length (x .now)) (before z)
@@ -1434,7 +1434,7 @@ module _ {MODEL} (W : Given 𝓤 H A) {RUN}
       move ! (5 ∷ 6 ∷ []) $ fjoin ! $ move ! (5 ∷ 0 ∷ []) $ fjoin ! $ move ! (4 ∷ 0 ∷ []) $ fjoin ! $ move ! (3 ∷ 0 ∷ []) $ fjoin ! $ move ! (2 ∷ 0 ∷ []) $ fjoin ! $ move ! (1 ∷ 0 ∷ []) $ fjoin ! $
       frame ! $ feqI ! (List Val) (vunit ∷ []) (vunit ∷ []) refl $ done !
 
-  module _ (𝓣 : Tables 𝓤 H) (known-loader : Triple 𝓤 (𝓣 .C #loader) (Loader 𝓤 H A at-mem run)) (known-put : Triple 𝓤 (𝓣 .C #put) (Put 𝓤 H A at-mem run)) where
+  module _ (𝓣 : Tables 𝓤 H) (known-loading : Triple 𝓤 (𝓣 .C #loading) (Loading 𝓤 H A at-mem run)) (known-put : Triple 𝓤 (𝓣 .C #put) (Put 𝓤 H A at-mem run)) where
     abbrev fm : FmC 𝓤 H (W .laws) (𝓣 .C)
     fm = fmOf 𝓤 H (W .laws) 𝓣
 
@@ -1451,14 +1451,14 @@ module _ {MODEL} (W : Given 𝓤 H A) {RUN}
         outs(lambda k: f"mut-tells (named {k}) {part('κs', k)} {row(k)}") + [f"shr-slice-tells (named 4) {part('κs', 4)} u8", f"mut-slice-tells (named 5) {part('κs', 5)} T.the-row"] + [f"mut-slice-tells (named {j + 6}) {part('κs', j + 6)} u32" for j in range(n)],
         " ".join(outs(lambda k: tail("κs", k))) + " (κs .1 .1 .1 .1) " + " ".join(outs(lambda k: tail("qs", k))) + " (qs .1 .1 .1 .1) " + " ".join(tail("a", i) for i in range(6)) + " (a" + " .1" * 6 + ") "
         + " ".join(f"(are{' .1' * i} .0 .0 .1)" for i in (4, 5)) + " " + tuple_of([f"are{' .1' * (j + 6)} .0 .0 .1" for j in range(n)]),
-        [("loader", "Loader", "calls-loading·load"), ("put", "Put", "calls-answers·put-load")],
+        [("loading", "Loading", "calls-loading·load"), ("put", "Put", "calls-answers·put-load")],
     )
     write(
         "yumbaqel",
         "yumbaqel_load",
-        "-- `yumbaqel_load` meets its contract: the loader answers, writes the fourteen lists and fills the reach records, and `put_load` hands the\n-- answer out. Every list and every reference is passed on.",
+        "-- `yumbaqel_load` meets its contract: the loading answers, writes the fourteen lists and fills the reach records, and `put_load` hands the\n-- answer out. Every list and every reference is passed on.",
         IMPORTS_LOAD + IMPORTS_REACH + "use Rattle.answers.specs.Answers.{Told, foundBy, handed, loadedValues}\n"
-        + callee_imports("Rattle.loading.proofs.load", "loader") + callee_imports("Rattle.answers.proofs.put_load", "put")
+        + callee_imports("Rattle.loading.proofs.load", "loading") + callee_imports("Rattle.answers.proofs.put_load", "put")
         + LENT.replace("loading·proofs.proofs", "loading.proofs") + own_imports("yumbaqel", "yumbaqel_load", code=False),
         body,
     )

@@ -573,7 +573,7 @@ def words(sheet: bytes, begin: int, count: int) -> list[int]:
 
 
 def answer(sheet: bytes) -> Optional[Refusal]:
-    """The loader's answer with room enough: nothing when it accepts, else the refusal."""
+    """A loading's answer with room enough: nothing when it accepts, else the refusal."""
     try:
         load(sheet, Lists(MOST_SEGMENTS), [None] * MOST_REACHES)
     except Refusal as refusal:

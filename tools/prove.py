@@ -204,7 +204,7 @@ def main() -> int:
         return NO_RT
     for number in (signal.SIGHUP, signal.SIGTERM):
         signal.signal(number, lambda number, _: sys.exit(128 + number))
-    terminal = sys.stdout.isatty() and os.environ.get("TERM", "dumb") != "dumb"
+    terminal = sys.stdout is not None and sys.stdout.isatty() and os.environ.get("TERM", "dumb") != "dumb"
     progress = Progress(rested_on(crates, names or list(crates)), root / "target" / "log", sys.stdout, terminal)
     progress.line(f"{len(progress.crates)} crates, each proved if it has changed since it last was; "
                   "target/prove.log has all that rt prints")

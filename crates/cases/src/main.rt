@@ -1,4 +1,4 @@
-// Runs loadings of the cases on standard input and prints its answers. A case is the sheet's length and the length of
+// Makes a loading of each case on standard input and prints its answer. A case is the sheet's length and the length of
 // the list of reach records, each as a field of a sheet, and then the sheet. Behind the answer stands the sum of each of the fourteen
 // lists, which were all full of sevens, so that a refusal that wrote anything would show.
 ghost use Prim.Native.Nat.{_<_};

@@ -1,4 +1,4 @@
-// The loader: a loading that is lent the list of reach records with the other lists.
+// A loading that is lent the list of reach records with the other lists: document 01's call.
 ghost use mathlib.Core.Path.{_≡_};
 ghost use mathlib.Core.List.{map};
 ghost use Prim.Native.Nat.{ℕ, _≤_};

@@ -133,7 +133,7 @@ module _ (n : ℕ) (x : Columns) (state : State) (lent : Working) (u′ M : ℕ)
 
     -- what the sweep asks; Kd, the start figures and the count take no part in it
     pub step-ready : Sweep.Ready n
-        (Sweep.columnsOf plain (x .e) (x .g) (x .l) (x .a) (x .b) (x .k) (x .ks) (x .h) (x .m) (x .s) (x .cl) (x .cb) [] [])
+        (Sweep.stepColumns plain (x .e) (x .g) (x .l) (x .a) (x .b) (x .k) (x .ks) (x .h) (x .m) (x .s) (x .cl) (x .cb) [] [])
         (Lent.state plain (state .channel) (state .storage) (state .sediment) (state .upstream) 0) lent u′
     unfolding segmentAt figuresAt startFault
     step-ready =

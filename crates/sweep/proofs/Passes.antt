@@ -13,7 +13,7 @@ use Rattle.stability.proofs.Passes.{top-stable, kept}
 use Rattle.sweep.specs.Segment.{stores, passed}
 use Rattle.lists.specs.Lent.{plain}
 use Rattle.terms.specs.Lent.{state as stateOf, working as workingOf}
-use Rattle.sweep.specs.Step.{columnsOf, passedOf, Ready, UpReady, FiguresOver, PassedOver, Stepped}
+use Rattle.sweep.specs.Step.{stepColumns, passedOf, Ready, UpReady, FiguresOver, PassedOver, Stepped}
 use Rattle.sweep.proofs.Bounds.{ready-fit, stores-accepted}
 use Rattle.sweep.proofs.Tables.{length-tab, tab-same, over-tab, getD-table}
 use Rattle.sweep.proofs.River.{standing, passedAt, rowAt, downward-tab}
@@ -62,19 +62,19 @@ module _ {n : ℕ} {columns : Columns} {state : State} {working : Working} {u′
 
 -- Kd, the start figures and the count of steps take no part
 downward-any : (n : ℕ) (e g l a b k ks h m s cl cb kd start C Z W : List ℕ) (u steps u′ : ℕ) →
-    downward u u′ (segmentsOf n (columnsOf plain e g l a b k ks h m s cl cb kd start)) (figuresOf n (stateOf plain C Z W u steps)) ≡ downward u u′ (segmentsOf n (columnsOf plain e g l a b k ks h m s cl cb [] [])) (figuresOf n (stateOf plain C Z W u 0))
+    downward u u′ (segmentsOf n (stepColumns plain e g l a b k ks h m s cl cb kd start)) (figuresOf n (stateOf plain C Z W u steps)) ≡ downward u u′ (segmentsOf n (stepColumns plain e g l a b k ks h m s cl cb [] [])) (figuresOf n (stateOf plain C Z W u 0))
 unfolding segmentAt figuresAt rowOf R
 downward-any n e g l a b k ks h m s cl cb kd start C Z W u steps u′ =
-    downward-tab n (columnsOf plain e g l a b k ks h m s cl cb kd start) (stateOf plain C Z W u steps) u′ ∙ sym (downward-tab n (columnsOf plain e g l a b k ks h m s cl cb [] []) (stateOf plain C Z W u 0) u′)
+    downward-tab n (stepColumns plain e g l a b k ks h m s cl cb kd start) (stateOf plain C Z W u steps) u′ ∙ sym (downward-tab n (stepColumns plain e g l a b k ks h m s cl cb [] []) (stateOf plain C Z W u 0) u′)
 
 pub step-end : {n : ℕ} {e g l a b k ks h m s cl cb C Z W P Y : List ℕ} {u u′ : ℕ} {channel storage sediment p y : List ℕ} →
-    Ready n (columnsOf plain e g l a b k ks h m s cl cb [] []) (stateOf plain C Z W u 0) (workingOf plain P Y) u′ →
-    PassedOver (downward u u′ (segmentsOf n (columnsOf plain e g l a b k ks h m s cl cb [] [])) (figuresOf n (stateOf plain C Z W u 0))) (workingOf plain P Y) p y →
+    Ready n (stepColumns plain e g l a b k ks h m s cl cb [] []) (stateOf plain C Z W u 0) (workingOf plain P Y) u′ →
+    PassedOver (downward u u′ (segmentsOf n (stepColumns plain e g l a b k ks h m s cl cb [] [])) (figuresOf n (stateOf plain C Z W u 0))) (workingOf plain P Y) p y →
     ((e g l a k s cl kd start : List ℕ) (u steps : ℕ) →
-    FiguresOver (finish newFigures (segmentsOf n (columnsOf plain e g l a b k ks h m s cl cb kd start)) (figuresOf n (stateOf plain C Z W u steps)) (up (passedOf n (workingOf plain p y))))
+    FiguresOver (finish newFigures (segmentsOf n (stepColumns plain e g l a b k ks h m s cl cb kd start)) (figuresOf n (stateOf plain C Z W u steps)) (up (passedOf n (workingOf plain p y))))
     (stateOf plain C Z W u steps) channel storage sediment) →
     (kd start : List ℕ) (steps : ℕ) →
-    Stepped n (columnsOf plain e g l a b k ks h m s cl cb kd start) (stateOf plain C Z W u steps) (workingOf plain P Y) u′ channel storage sediment p y
+    Stepped n (stepColumns plain e g l a b k ks h m s cl cb kd start) (stateOf plain C Z W u steps) (workingOf plain P Y) u′ channel storage sediment p y
 unfolding stepped
 step-end {n} {e} {g} {l} {a} {b} {k} {ks} {h} {m} {s} {cl} {cb} {C} {Z} {W} {P} {Y} {u} {u′} ready passes raised kd start steps =
     let any = downward-any n e g l a b k ks h m s cl cb kd start C Z W u steps u′ in

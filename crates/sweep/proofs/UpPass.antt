@@ -13,7 +13,7 @@ use Rattle.model.specs.Calls.{Working}
 use Rattle.sweep.specs.Segment.{stores, figures, passed, RaiseReady, StoresReady}
 use Rattle.lists.specs.Lent.{plain}
 use Rattle.terms.specs.Lent.{state as stateOf}
-use Rattle.sweep.specs.Step.{columnsOf, passedOf, UpReady, FiguresOver}
+use Rattle.sweep.specs.Step.{stepColumns, passedOf, UpReady, FiguresOver}
 use Rattle.sweep.proofs.Tables.{over-tab, FilledFrom, from-start, from-here, from-turn, from-end}
 use Rattle.sweep.proofs.River.{raisedAt, raised-end, raised-turn, finish-tab}
 
@@ -92,12 +92,12 @@ module _ {n : ℕ} {b ks h m cb : List ℕ} {state : State} {working : Working} 
 pub up-end : {n : ℕ} {b ks h m cb C Z W p y : List ℕ} {i x : ℕ} {channel storage sediment : List ℕ} → i ≤ 0 →
     Up n b ks h m cb (stateOf plain C Z W 0 0) (record { p = p; y = y }) i x channel storage sediment →
     (e g l a k s cl kd start : List ℕ) (u steps : ℕ) →
-    FiguresOver (finish newFigures (segmentsOf n (columnsOf plain e g l a b k ks h m s cl cb kd start)) (figuresOf n (stateOf plain C Z W u steps)) (up (passedOf n (record { p = p; y = y }))))
+    FiguresOver (finish newFigures (segmentsOf n (stepColumns plain e g l a b k ks h m s cl cb kd start)) (figuresOf n (stateOf plain C Z W u steps)) (up (passedOf n (record { p = p; y = y }))))
     (stateOf plain C Z W u steps) channel storage sediment
 unfolding segmentAt figuresAt newFigures newStorage newSediment
 up-end {n} {b} {ks} {h} {m} {cb} {C} {Z} {W} {p} {y} {i} o v e g l a k s cl kd start u steps =
     let zero-i : i ≡ 0 = omega arith in
-    rw (finish-tab newFigures (segmentAt (columnsOf plain e g l a b k ks h m s cl cb kd start)) (figuresAt (stateOf plain C Z W u steps)) (passedRead (record { p = p; y = y })) n 0 n (omega arith))
+    rw (finish-tab newFigures (segmentAt (stepColumns plain e g l a b k ks h m s cl cb kd start)) (figuresAt (stateOf plain C Z W u steps)) (passedRead (record { p = p; y = y })) n 0 n (omega arith))
     (record {
       of-channel = from-end zero-i (v .in-channel) ∙ sym (over-tab (λ (f : Figures). f .c) n _ C);
       of-storage = from-end zero-i (v .in-storage) ∙ sym (over-tab (λ (f : Figures). f .z) n _ Z);

@@ -17,8 +17,8 @@ use Rattle.stability.specs.Stable.{Stable}
 use Rattle.sweep.specs.Segment.{stores, passed, StoresReady}
 
 -- the twelve lists that a step reads, with those of Kd and the start figures, which take no part in it
-abbrev pub columnsOf : {A : Type 0} → (A → List ℕ) → (e g l a b k ks h m s cl cb : A) → (kd start : List ℕ) → Columns
-columnsOf at e g l a b k ks h m s cl cb kd start =
+abbrev pub stepColumns : {A : Type 0} → (A → List ℕ) → (e g l a b k ks h m s cl cb : A) → (kd start : List ℕ) → Columns
+stepColumns at e g l a b k ks h m s cl cb kd start =
     columns plain (at e) (at g) (at l) (at a) (at b) (at k) (at ks) (at h) (at m) (at s) (at cl) (at cb) kd start
 
 -- the first n entries of the working lists

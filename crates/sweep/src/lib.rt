@@ -9,7 +9,7 @@ ghost use Rattle.model.specs.Sweep.{downward, finish, up, newFigures};
 ghost use Rattle.model.specs.State.{segmentsOf, figuresOf};
 ghost use Rattle.lists.specs.Lent.{entry, exit, plain};
 ghost use Rattle.terms.specs.Lent.{state, working};
-ghost use Rattle.sweep.specs.Step.{columnsOf, passedOf, Ready, UpReady, FiguresOver, PassedOver, Stepped};
+ghost use Rattle.sweep.specs.Step.{stepColumns, passedOf, Ready, UpReady, FiguresOver, PassedOver, Stepped};
 
 pub mod segment;
 
@@ -44,8 +44,8 @@ fn downward(
     p: &mut [u64],
     y: &mut [u64],
 )
-    requires { ⌜ Ready n (columnsOf now e g l a b k ks h m s cl cb [] []) (state now channel storage sediment u 0) (working now p y) next ⌝ }
-    ensures { λ _. ⌜ PassedOver (downward u next (segmentsOf n (columnsOf entry e g l a b k ks h m s cl cb [] []))
+    requires { ⌜ Ready n (stepColumns now e g l a b k ks h m s cl cb [] []) (state now channel storage sediment u 0) (working now p y) next ⌝ }
+    ensures { λ _. ⌜ PassedOver (downward u next (segmentsOf n (stepColumns entry e g l a b k ks h m s cl cb [] []))
         (figuresOf n (state entry channel storage sediment u 0))) (working entry p y) (exit p) (exit y) ⌝ }
 {
     let mut above = u;
@@ -102,7 +102,7 @@ fn upward(
 )
     requires { ⌜ UpReady n (now b) (now ks) (now h) (now m) (now cb) (state now channel storage sediment 0 0) (working now p y) ⌝ }
     ensures { λ _. ⌜ ((e g l a k s cl kd start : List ℕ) (u steps : ℕ) → FiguresOver (finish newFigures
-        (segmentsOf n (columnsOf plain e g l a (entry b) k (entry ks) (entry h) (entry m) s cl (entry cb) kd start))
+        (segmentsOf n (stepColumns plain e g l a (entry b) k (entry ks) (entry h) (entry m) s cl (entry cb) kd start))
         (figuresOf n (state entry channel storage sediment u steps)) (up (passedOf n (working entry p y))))
         (state entry channel storage sediment u steps) (exit channel) (exit storage) (exit sediment)) ⌝ }
 {
@@ -151,8 +151,8 @@ pub fn step(
     p: &mut [u64],
     y: &mut [u64],
 )
-    requires { ⌜ Ready n (columnsOf now e g l a b k ks h m s cl cb [] []) (state now channel storage sediment u 0) (working now p y) next ⌝ }
-    ensures { λ _. ⌜ ((kd start : List ℕ) (steps : ℕ) → Stepped n (columnsOf entry e g l a b k ks h m s cl cb kd start)
+    requires { ⌜ Ready n (stepColumns now e g l a b k ks h m s cl cb [] []) (state now channel storage sediment u 0) (working now p y) next ⌝ }
+    ensures { λ _. ⌜ ((kd start : List ℕ) (steps : ℕ) → Stepped n (stepColumns entry e g l a b k ks h m s cl cb kd start)
         (state entry channel storage sediment u steps) (working entry p y) next
         (exit channel) (exit storage) (exit sediment) (exit p) (exit y)) ⌝ }
 {

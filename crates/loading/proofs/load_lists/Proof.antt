@@ -60,10 +60,10 @@ use Rattle.terms.proofs.Reach as T
 use Rattle.terms.proofs.Reach.Laws as T′
 use Rattle.records.specs.Records.{noReach}
 use Rattle.records.proofs.NoReach.{none-val, none-is}
-use Rattle.loading.proofs.load as loader
-use Rattle.loading.proofs.load.Symbol as loader-def
-use Rattle.loading.proofs.load.Symbol.{name as #loader}
-use Rattle.loading.proofs.load.Met as loader-thm
+use Rattle.loading.proofs.load as loading
+use Rattle.loading.proofs.load.Symbol as loading-def
+use Rattle.loading.proofs.load.Symbol.{name as #loading}
+use Rattle.loading.proofs.load.Met as loading-thm
 use Rattle.loading.proofs.Room.{room}
 use Rattle.loading.proofs.Lent.{Refs, Lists, rows, Values, values, Rooms, last, Same, before, after, heard-last, one-fact, and-fact, says-all}
 use Rattle.loading.proofs.load_lists.Key.{name as #the-fn}
@@ -116,8 +116,8 @@ module _ {M : Type 1} (𝓤 : URA M) (H : Heap 𝓤) (A : Atoms 𝓤) (W : Given
       mach l = only (array-vals (LL.vals T.the-type T′.the-laws) l)
 
 module _ {M : Type 1} (𝓤 : URA M) (H : Heap 𝓤) (A : Atoms 𝓤) (at-mem : Memory → SProp 𝓤) (run : Routine → Fun 𝓤) where
-  abbrev Loader : Contract 𝓤
-  Loader = tripleOf 𝓤 H A loader.signature (loader.spec 𝓤 H A at-mem run)
+  abbrev Loading : Contract 𝓤
+  Loading = tripleOf 𝓤 H A loading.signature (loading.spec 𝓤 H A at-mem run)
 
 module _ {M : Type 1} (𝓤 : URA M) (H : Heap 𝓤) (A : Atoms 𝓤) (W : Given 𝓤 H A) (at-mem : Memory → SProp 𝓤) (run : Routine → Fun 𝓤)
     (κs : Lfts 15) (qs : Shares 15) (y : RefT (List ℕ)) (z : Refs 14) (y-room : Room u8 (length (y .now))) (z-room : Rooms 14 z) where
@@ -143,19 +143,19 @@ module _ {M : Type 1} (𝓤 : URA M) (H : Heap 𝓤) (A : Atoms 𝓤) (W : Given
   abbrev load-args : ℕ → GName → RefT (List ℕ) × (RefT (List Reach) × Refs 14)
   load-args l γ = (y, (x l γ, z))
 
-  abbrev to-load : ℕ → ℕ → GName → Loader 𝓤 H A at-mem run .Ghost
+  abbrev to-load : ℕ → ℕ → GName → Loading 𝓤 H A at-mem run .Ghost
   to-load α l γ = ((load-κs α, (qs .0, (fullShare, qs .1)), tt, load-args l γ, (sliceVal (y .ptr) (length (y .now)) ∷ [], (sliceVal (l, 0) 64 ∷ [], values 14 z))), tt)
 
   abbrev Lent : ℕ → ℕ → GName → Fml
   Lent α l γ = fsep (MutSlice (named 0) (α ∷ []) T.the-row .own (x l γ) (sliceVal (l, 0) 64 ∷ [])) (owns (rows 14 (κs .1)) z (values 14 z))
 
   goes-load : (α l : ℕ) (γ : GName) → ent 𝓤 (sep 𝓤 (sep 𝓤 (A .lft (κs .0) (qs .0)) (sep 𝓤 (A .lft (α ∷
-      []) fullShare) (toks 𝓤 A 14 (κs .1) (qs .1)))) (sep 𝓤 (sem 𝓤 H A Sheet) (sem 𝓤 H A (Lent α l γ)))) (sep 𝓤 (Loader 𝓤 H A at-mem run .pre (to-load α l γ)) (sem 𝓤 H A Sheet))
+      []) fullShare) (toks 𝓤 A 14 (κs .1) (qs .1)))) (sep 𝓤 (sem 𝓤 H A Sheet) (sem 𝓤 H A (Lent α l γ)))) (sep 𝓤 (Loading 𝓤 H A at-mem run .pre (to-load α l γ)) (sem 𝓤 H A Sheet))
   goes-load α l γ =
       qed W ((‵ (flft (κs .0) (qs .0)) ⊛ (‵ (flft (α ∷ []) fullShare) ⊛ raw (toks 𝓤 A 14 (κs .1) (qs .1)))) ∷ ‵ Sheet ∷ ‵ (Lent α l γ) ∷ []) ∵ move ! (1 ∷ []) $
       use1 W (‵ Sheet ⊛ ‵ Sheet) (shr-slice-copy 𝓤 H A W (named 0) (κs .0) u8 .twice y (sliceVal (y .ptr) (length (y .now)) ∷ [])) $ split ! $ move ! (0 ∷ 3 ∷ []) $ fjoin ! $
       move ! (2 ∷ 0 ∷ []) $
-      use2 W (raw (Loader 𝓤 H A at-mem run .pre (to-load α l γ))) (qed W ((‵ (flft (κs .0) (qs .0)) ⊛ (‵ (flft (α ∷ []) fullShare) ⊛ raw (toks 𝓤 A 14 (κs .1) (qs .1)))) ∷
+      use2 W (raw (Loading 𝓤 H A at-mem run .pre (to-load α l γ))) (qed W ((‵ (flft (κs .0) (qs .0)) ⊛ (‵ (flft (α ∷ []) fullShare) ⊛ raw (toks 𝓤 A 14 (κs .1) (qs .1)))) ∷
       ‵ (fsep Sheet (Lent α l γ)) ∷ []) ∵ join ! $ frame ! $ done !) $ frame ! $ done !
 
   abbrev Answer : Load → Type 0
@@ -174,7 +174,7 @@ module _ {M : Type 1} (𝓤 : URA M) (H : Heap 𝓤) (A : Atoms 𝓤) (W : Given
       suffices ! _ (ends-at 𝓤 H A the-fn.ended stayed (the-fn.clauses 𝓤 H A at-mem run) W ((κs, qs, tt, a, at), tt) u r (tt, ws) (tt, same)) $
       says-all ! (and-fact 𝓤 answers (and-fact 𝓤 writes (one-fact 𝓤 (λ records enough. answers ∙ room (y .now) (before z) records enough)))) $ frame ! $ fjoin ! $ frame ! $ done !
 
-  module _ (𝓣 : Tables 𝓤 H) (known-loader : Triple 𝓤 (𝓣 .C #loader) (Loader 𝓤 H A at-mem run)) where
+  module _ (𝓣 : Tables 𝓤 H) (known-loading : Triple 𝓤 (𝓣 .C #loading) (Loading 𝓤 H A at-mem run)) where
     abbrev fm : FmC 𝓤 H (W .laws) (𝓣 .C)
     fm = fmOf 𝓤 H (W .laws) 𝓣
 
@@ -260,12 +260,12 @@ module _ {M : Type 1} (𝓤 : URA M) (H : Heap 𝓤) (A : Atoms 𝓤) (W : Given
         -- `load`
         move ! (98 ∷ []) $ split ! $ move ! (4 ∷ 1 ∷ []) $ join ! $ move ! (1 ∷ 0 ∷ []) $ join ! $ move ! (98 ∷ []) $ fsplit ! $ move ! (3 ∷ 1 ∷ []) $ fjoin ! $ move ! (2 ∷ 1 ∷
         0 ∷ []) $
-        use3 W (raw (Loader 𝓤 H A at-mem run .pre (to-load α l16 γ)) ⊛ ‵ Sheet) (goes-load α l16 γ) $ split ! $
-        calls-at ! fm (Loader 𝓤 H A at-mem run) known-loader (to-load α l16 γ) (and-then ! (load ! (from ! (stop !)) (look ! 94 refl)) (and-then ! (load ! (from ! (stop !)) (look ! 59 refl)) (and-then ! (load ! (from ! (stop !)) (look ! 55 refl)) (and-then ! (load ! (from ! (stop !)) (look ! 51 refl)) (and-then ! (load ! (from ! (stop !)) (look ! 47 refl)) (and-then ! (load ! (from ! (stop !)) (look ! 43 refl)) (and-then ! (load ! (from ! (stop !)) (look ! 39 refl)) (and-then ! (load ! (from ! (stop !)) (look ! 35 refl)) (and-then ! (load ! (from ! (stop !)) (look ! 31 refl)) (and-then ! (load ! (from ! (stop !)) (look ! 27 refl)) (and-then ! (load ! (from ! (stop !)) (look ! 23 refl)) (and-then ! (load ! (from ! (stop !)) (look ! 19 refl)) (and-then ! (load ! (from ! (stop !)) (look ! 15 refl)) (and-then ! (load ! (from ! (stop !)) (look ! 11 refl)) (and-then ! (load ! (from ! (stop !)) (look ! 7 refl)) (and-then ! (load ! (from ! (stop !)) (look ! 3 refl)) (no-more !))))))))))))))))) (λ u.
+        use3 W (raw (Loading 𝓤 H A at-mem run .pre (to-load α l16 γ)) ⊛ ‵ Sheet) (goes-load α l16 γ) $ split ! $
+        calls-at ! fm (Loading 𝓤 H A at-mem run) known-loading (to-load α l16 γ) (and-then ! (load ! (from ! (stop !)) (look ! 94 refl)) (and-then ! (load ! (from ! (stop !)) (look ! 59 refl)) (and-then ! (load ! (from ! (stop !)) (look ! 55 refl)) (and-then ! (load ! (from ! (stop !)) (look ! 51 refl)) (and-then ! (load ! (from ! (stop !)) (look ! 47 refl)) (and-then ! (load ! (from ! (stop !)) (look ! 43 refl)) (and-then ! (load ! (from ! (stop !)) (look ! 39 refl)) (and-then ! (load ! (from ! (stop !)) (look ! 35 refl)) (and-then ! (load ! (from ! (stop !)) (look ! 31 refl)) (and-then ! (load ! (from ! (stop !)) (look ! 27 refl)) (and-then ! (load ! (from ! (stop !)) (look ! 23 refl)) (and-then ! (load ! (from ! (stop !)) (look ! 19 refl)) (and-then ! (load ! (from ! (stop !)) (look ! 15 refl)) (and-then ! (load ! (from ! (stop !)) (look ! 11 refl)) (and-then ! (load ! (from ! (stop !)) (look ! 7 refl)) (and-then ! (load ! (from ! (stop !)) (look ! 3 refl)) (no-more !))))))))))))))))) (λ u.
         use1 W (later (some (λ (r : Load). ((‵ (flft (κs .0) (qs .0)) ⊛ (‵ (flft (α ∷ []) fullShare) ⊛ raw (toks 𝓤 A 14 (κs .1) (qs .1)))) ⊛ ‵ (S.the-row .own r (u ∷ []))) ⊛
-        raw (ensured 𝓤 H A loader.ended (loader.clauses 𝓤 H A at-mem run) (load-κs α) (load-args l16 γ) tt r)))) (id⊢ 𝓤 _) $ await ! tt $ pick ! (λ r.
-        split ! $ move ! (1 ∷ []) $ use1 W (some (λ (ws : Unit {0} × (List Reach × Lists 14)). ‵ (lasts loader.ended (load-κs α) (load-args l16 γ) ws) ⊛ (raw (fact 𝓤 (Answer r)) ⊛
-        (raw (fact 𝓤 (Written (ws .1 .1))) ⊛ raw (fact 𝓤 (Filled (ws .1 .0))))))) (id⊢ 𝓤 _) $ pick ! (λ ws. split ! $ move ! (1 ∷ []) $ split ! $
+        raw (ensured 𝓤 H A loading.ended (loading.clauses 𝓤 H A at-mem run) (load-κs α) (load-args l16 γ) tt r)))) (id⊢ 𝓤 _) $ await ! tt $ pick ! (λ r.
+        split ! $ move ! (1 ∷ []) $ use1 W (some (λ (ws : Unit {0} × (List Reach × Lists 14)). ‵ (lasts loading.ended (load-κs α) (load-args l16 γ) ws) ⊛
+        (raw (fact 𝓤 (Answer r)) ⊛ (raw (fact 𝓤 (Written (ws .1 .1))) ⊛ raw (fact 𝓤 (Filled (ws .1 .0))))))) (id⊢ 𝓤 _) $ pick ! (λ ws. split ! $ move ! (1 ∷ []) $ split ! $
         heard ! (Answer r) (λ answers. split ! $ heard ! (Written (ws .1 .1)) (λ writes. drop ! $
         fsplit ! $ drop ! $ fsplit ! $ fsplit ! $ move ! (1 ∷ []) $ feqL ! (λ long. move ! (1 ∷ []) $ use1 W (‵ (last 14 z (ws .1 .1)) ⊛
         raw (fact 𝓤 (Same 14 z (ws .1 .1)))) (heard-last 𝓤 H A W 14 z (ws .1 .1)) $ split ! $ move ! (1 ∷ []) $ heard ! (Same 14 z (ws .1 .1)) (λ same.
@@ -316,18 +316,18 @@ module _ {M : Type 1} (𝓤 : URA M) (H : Heap 𝓤) (A : Atoms 𝓤) (W : Given
         keep ! (0 ∷ 3 ∷ 2 ∷ 1 ∷ []) $ by ! (exits r u (ws .1 .1) answers writes same))))))))))))))))))))))))))))))))))))))))))))))))))))))))))))
 
 module _ {M : Type 1} (𝓤 : URA M) (H : Heap 𝓤) (A : Atoms 𝓤) (W : Given 𝓤 H A) (at-mem : Memory → SProp 𝓤) (run : Routine → Fun 𝓤) where
-  traces : (𝓣 : Tables 𝓤 H) → Triple 𝓤 (𝓣 .C #loader) (Loader 𝓤 H A at-mem run) →
+  traces : (𝓣 : Tables 𝓤 H) → Triple 𝓤 (𝓣 .C #loading) (Loading 𝓤 H A at-mem run) →
       Walks 𝓤 H A the-fn.ended stayed (WpFn 𝓤 H (𝓣 .C) (𝓣 .Λ) code.function) (the-fn.clauses 𝓤 H A at-mem run)
-  traces 𝓣 known-loader =
+  traces 𝓣 known-loading =
       walked 𝓤 H A the-fn.ended stayed (the-fn.clauses 𝓤 H A at-mem run) (WpFn 𝓤 H (𝓣 .C) (𝓣 .Λ) code.function)
       (λ κs. (slice-vals, (slice-vals, (slice-vals, (slice-vals, (slice-vals, (slice-vals, (slice-vals, (slice-vals, (slice-vals, (slice-vals, (slice-vals, (slice-vals, (slice-vals, (slice-vals, (slice-vals, tt)))))))))))))))) (λ κs. (shr-slice-tells (named 0) (κs .0) u8, (mut-slice-tells (named 1) (κs .1 .0) u32, (mut-slice-tells (named 2) (κs .1 .1 .0) u32, (mut-slice-tells (named 3) (κs .1 .1 .1 .0) u32, (mut-slice-tells (named 4) (κs .1 .1 .1 .1 .0) u32, (mut-slice-tells (named 5) (κs .1 .1 .1 .1 .1 .0) u32, (mut-slice-tells (named 6) (κs .1 .1 .1 .1 .1 .1 .0) u32, (mut-slice-tells (named 7) (κs .1 .1 .1 .1 .1 .1 .1 .0) u32, (mut-slice-tells (named 8) (κs .1 .1 .1 .1 .1 .1 .1 .1 .0) u32, (mut-slice-tells (named 9) (κs .1 .1 .1 .1 .1 .1 .1 .1 .1 .0) u32, (mut-slice-tells (named 10) (κs .1 .1 .1 .1 .1 .1 .1 .1 .1 .1 .0) u32, (mut-slice-tells (named 11) (κs .1 .1 .1 .1 .1 .1 .1 .1 .1 .1 .1 .0) u32, (mut-slice-tells (named 12) (κs .1 .1 .1 .1 .1 .1 .1 .1 .1 .1 .1 .1 .0) u32, (mut-slice-tells (named 13) (κs .1 .1 .1 .1 .1 .1 .1 .1 .1 .1 .1 .1 .1 .0) u32, (mut-slice-tells (named 14) (κs .1 .1 .1 .1 .1 .1 .1 .1 .1 .1 .1 .1 .1 .1 .0) u32, tt))))))))))))))))
-      (λ κs qs bounds a g are. via 𝓤 _ (fst∗ 𝓤 _ (emp 𝓤)) (trace 𝓤 H A W at-mem run κs qs (a .0) (a .1) (are .0 .0 .1) (are .1 .0 .0 .1, (are .1 .1 .0 .0 .1, (are .1 .1 .1 .0 .0 .1, (are .1 .1 .1 .1 .0 .0 .1, (are .1 .1 .1 .1 .1 .0 .0 .1, (are .1 .1 .1 .1 .1 .1 .0 .0 .1, (are .1 .1 .1 .1 .1 .1 .1 .0 .0 .1, (are .1 .1 .1 .1 .1 .1 .1 .1 .0 .0 .1, (are .1 .1 .1 .1 .1 .1 .1 .1 .1 .0 .0 .1, (are .1 .1 .1 .1 .1 .1 .1 .1 .1 .1 .0 .0 .1, (are .1 .1 .1 .1 .1 .1 .1 .1 .1 .1 .1 .0 .0 .1, (are .1 .1 .1 .1 .1 .1 .1 .1 .1 .1 .1 .1 .0 .0 .1, (are .1 .1 .1 .1 .1 .1 .1 .1 .1 .1 .1 .1 .1 .0 .0 .1, (are .1 .1 .1 .1 .1 .1 .1 .1 .1 .1 .1 .1 .1 .1 .0 .0 .1, tt)))))))))))))) 𝓣 known-loader))
+      (λ κs qs bounds a g are. via 𝓤 _ (fst∗ 𝓤 _ (emp 𝓤)) (trace 𝓤 H A W at-mem run κs qs (a .0) (a .1) (are .0 .0 .1) (are .1 .0 .0 .1, (are .1 .1 .0 .0 .1, (are .1 .1 .1 .0 .0 .1, (are .1 .1 .1 .1 .0 .0 .1, (are .1 .1 .1 .1 .1 .0 .0 .1, (are .1 .1 .1 .1 .1 .1 .0 .0 .1, (are .1 .1 .1 .1 .1 .1 .1 .0 .0 .1, (are .1 .1 .1 .1 .1 .1 .1 .1 .0 .0 .1, (are .1 .1 .1 .1 .1 .1 .1 .1 .1 .0 .0 .1, (are .1 .1 .1 .1 .1 .1 .1 .1 .1 .1 .0 .0 .1, (are .1 .1 .1 .1 .1 .1 .1 .1 .1 .1 .1 .0 .0 .1, (are .1 .1 .1 .1 .1 .1 .1 .1 .1 .1 .1 .1 .0 .0 .1, (are .1 .1 .1 .1 .1 .1 .1 .1 .1 .1 .1 .1 .1 .0 .0 .1, (are .1 .1 .1 .1 .1 .1 .1 .1 .1 .1 .1 .1 .1 .1 .0 .0 .1, tt)))))))))))))) 𝓣 known-loading))
 
 meets : {M : Type 1} (𝓤 : URA M) (H : Heap 𝓤) (A : Atoms 𝓤) → Given 𝓤 H A → (at-mem : Memory → SProp 𝓤) (run : Routine → Fun 𝓤) (𝓣 : Tables 𝓤 H) →
-    Triple 𝓤 (𝓣 .C #loader) (Loader 𝓤 H A at-mem run) → Meets 𝓤 H A the-fn.signature (WpFn 𝓤 H (𝓣 .C) (𝓣 .Λ) code.function) (the-fn.spec 𝓤 H A at-mem run)
-meets 𝓤 H A W at-mem run 𝓣 known-loader =
+    Triple 𝓤 (𝓣 .C #loading) (Loading 𝓤 H A at-mem run) → Meets 𝓤 H A the-fn.signature (WpFn 𝓤 H (𝓣 .C) (𝓣 .Λ) code.function) (the-fn.spec 𝓤 H A at-mem run)
+meets 𝓤 H A W at-mem run 𝓣 known-loading =
     walk-meets 𝓤 H A the-fn.ended stayed W (goes-none-slice 𝓤 H A W 15 (0 ∷ []) tt (plain (λ _. u8)) yes, (goes-gave-slice 𝓤 H A W 15 1 tt (plain (λ _. u32)), (goes-gave-slice 𝓤 H A W 15 2 tt (plain (λ _. u32)), (goes-gave-slice 𝓤 H A W 15 3 tt (plain (λ _. u32)), (goes-gave-slice 𝓤 H A W 15 4 tt (plain (λ _. u32)), (goes-gave-slice 𝓤 H A W 15 5 tt (plain (λ _. u32)), (goes-gave-slice 𝓤 H A W 15 6 tt (plain (λ _. u32)), (goes-gave-slice 𝓤 H A W 15 7 tt (plain (λ _. u32)), (goes-gave-slice 𝓤 H A W 15 8 tt (plain (λ _. u32)), (goes-gave-slice 𝓤 H A W 15 9 tt (plain (λ _. u32)), (goes-gave-slice 𝓤 H A W 15 10 tt (plain (λ _. u32)), (goes-gave-slice 𝓤 H A W 15 11 tt (plain (λ _. u32)), (goes-gave-slice 𝓤 H A W 15 12 tt (plain (λ _. u32)), (goes-gave-slice 𝓤 H A W 15 13 tt (plain (λ _. u32)), (goes-gave-slice 𝓤 H A W 15 14 tt (plain (λ _. u32)), tt))))))))))))))) (the-fn.clauses 𝓤 H A at-mem run)
-    (WpFn 𝓤 H (𝓣 .C) (𝓣 .Λ) code.function) (WpFn-mono 𝓤 H (W .laws) 𝓣 code.function) (traces 𝓤 H A W at-mem run 𝓣 known-loader)
+    (WpFn 𝓤 H (𝓣 .C) (𝓣 .Λ) code.function) (WpFn-mono 𝓤 H (W .laws) 𝓣 code.function) (traces 𝓤 H A W at-mem run 𝓣 known-loading)
 
 pub load-lists-spec : {M : Type 1} → stated.statement M
 unfolding code.routine tablesOf
@@ -335,4 +335,4 @@ load-lists-spec 𝓤 H 𝓜 𝓖 𝓡 =
     entered 𝓤 H (tripleOf 𝓤 H (𝓖 .A) the-fn.signature (the-fn.spec 𝓤 H (𝓖 .A) (𝓜 .mem) (𝓡 .run)))
     (tables 𝓤 H 𝓜 𝓡 code.env .C) (tables 𝓤 H 𝓜 𝓡 code.env .Λ) #the-fn code.function (code.unfolded 𝓤 H 𝓜 𝓡)
     (meets 𝓤 H (𝓖 .A) (givenOf 𝓤 H 𝓜 𝓖) (𝓜 .mem) (𝓡 .run) (tablesOf 𝓤 H 𝓜 (tables 𝓤 H 𝓜 𝓡 code.env))
-    (cited 𝓤 H (Loader 𝓤 H (𝓖 .A) (𝓜 .mem) (𝓡 .run)) 𝓜 𝓡 code.env #loader loader-def.routine code.calls-loading·load (loader-thm.met 𝓤 H 𝓜 𝓖 𝓡)))
+    (cited 𝓤 H (Loading 𝓤 H (𝓖 .A) (𝓜 .mem) (𝓡 .run)) 𝓜 𝓡 code.env #loading loading-def.routine code.calls-loading·load (loading-thm.met 𝓤 H 𝓜 𝓖 𝓡)))

@@ -4,7 +4,7 @@ use mathlib.Core.List.{[]}
 use Prim.Native.Nat.{_-_, _<_}
 use native.Mathlib.Omega.{arith}
 use lib.ListN.{length}
-use Rattle.sweep.specs.Step.{columnsOf}
+use Rattle.sweep.specs.Step.{stepColumns}
 use Rattle.lists.specs.Lent.{plain}
 use Rattle.terms.specs.Lent.{state, working}
 use Rattle.sweep.proofs.DownPass.{Down, down-inside, down-start, down-ready, down-turn, down-end}
@@ -14,7 +14,7 @@ use Rattle.sweep.proofs.downward.Tie as tie
 
 abbrev Inv-loop : tie.InvT-loop
 Inv-loop n u next e g l a b k ks h m s cl cb channel storage sediment p₀ y₀ above₀ p-above₀ y-above₀ i₀ p y above p-above y-above i =
-    Down n (columnsOf plain e g l a b k ks h m s cl cb [] []) (state plain channel storage sediment u 0) (working plain p₀ y₀) next i above p-above y-above p y
+    Down n (stepColumns plain e g l a b k ks h m s cl cb [] []) (state plain channel storage sediment u 0) (working plain p₀ y₀) next i above p-above y-above p y
 
 abbrev μ-loop : tie.MeasureT-loop
 μ-loop n u next e g l a b k ks h m s cl cb channel storage sediment p₀ y₀ above₀ p-above₀ y-above₀ i₀ p y above p-above y-above i = n - i

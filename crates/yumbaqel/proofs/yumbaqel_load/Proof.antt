@@ -1,4 +1,4 @@
--- `yumbaqel_load` meets its contract: the loader answers, writes the fourteen lists and fills the reach records, and `put_load` hands the
+-- `yumbaqel_load` meets its contract: the loading answers, writes the fourteen lists and fills the reach records, and `put_load` hands the
 -- answer out. Every list and every reference is passed on.
 -- Written by tools/hand_proofs.py. Assumes nothing.
 use mathlib.Core.Path.{_≡_, refl, sym, ap, subst, _∙_}
@@ -53,10 +53,10 @@ use Rattle.terms.specs.declared.Reach.{Reach}
 use Rattle.terms.proofs.Reach as T
 use Rattle.terms.proofs.Reach.Laws as T′
 use Rattle.answers.specs.Answers.{Told, foundBy, handed, loadedValues}
-use Rattle.loading.proofs.load as loader
-use Rattle.loading.proofs.load.Symbol as loader-def
-use Rattle.loading.proofs.load.Symbol.{name as #loader}
-use Rattle.loading.proofs.load.Met as loader-thm
+use Rattle.loading.proofs.load as loading
+use Rattle.loading.proofs.load.Symbol as loading-def
+use Rattle.loading.proofs.load.Symbol.{name as #loading}
+use Rattle.loading.proofs.load.Met as loading-thm
 use Rattle.answers.proofs.put_load as put
 use Rattle.answers.proofs.put_load.Symbol as put-def
 use Rattle.answers.proofs.put_load.Symbol.{name as #put}
@@ -79,8 +79,8 @@ unit-typed : (w : Val) → w ∷ [] ≡ vunit ∷ [] → Holds (hasTy tyUnit w) 
 unit-typed w is = subst (λ (z : Val). Holds (hasTy tyUnit z) × WT z) (sym (ap only is)) (tt, tt)
 
 module _ {M : Type 1} (𝓤 : URA M) (H : Heap 𝓤) (A : Atoms 𝓤) (at-mem : Memory → SProp 𝓤) (run : Routine → Fun 𝓤) where
-  abbrev Loader : Contract 𝓤
-  Loader = tripleOf 𝓤 H A loader.signature (loader.spec 𝓤 H A at-mem run)
+  abbrev Loading : Contract 𝓤
+  Loading = tripleOf 𝓤 H A loading.signature (loading.spec 𝓤 H A at-mem run)
 
   abbrev Put : Contract 𝓤
   Put = tripleOf 𝓤 H A put.signature (put.spec 𝓤 H A at-mem run)
@@ -109,15 +109,15 @@ module _ {M : Type 1} (𝓤 : URA M) (H : Heap 𝓤) (A : Atoms 𝓤) (W : Given
   Lent = fsep (MutSlice (named 0) (κs .1 .0) T.the-row .own x (sliceVal (x .ptr) (length (x .now)) ∷ [])) (owns (rows 14 (κs .1 .1)) z (values 14 z))
 
   -- `loading::load`: what its triple binds outside, and what it says of its answer, of the lists and of the reach records
-  abbrev to-load : Loader 𝓤 H A at-mem run .Ghost
+  abbrev to-load : Loading 𝓤 H A at-mem run .Ghost
   to-load = ((κs, qs, tt, load-args, load-at), tt)
 
-  goes-load : ent 𝓤 (sep 𝓤 (toks 𝓤 A 16 κs qs) (sep 𝓤 (sem 𝓤 H A Sheet) (sem 𝓤 H A Lent))) (sep 𝓤 (Loader 𝓤 H A at-mem run .pre to-load) (sem 𝓤 H A Sheet))
+  goes-load : ent 𝓤 (sep 𝓤 (toks 𝓤 A 16 κs qs) (sep 𝓤 (sem 𝓤 H A Sheet) (sem 𝓤 H A Lent))) (sep 𝓤 (Loading 𝓤 H A at-mem run .pre to-load) (sem 𝓤 H A Sheet))
   goes-load =
       qed W (raw (toks 𝓤 A 16 κs qs) ∷ ‵ Sheet ∷ ‵ Lent ∷ []) ∵ move ! (1 ∷ []) $
       use1 W (‵ Sheet ⊛ ‵ Sheet) (shr-slice-copy 𝓤 H A W (named 0) (κs .0) u8 .twice y (sliceVal (y .ptr) (length (y .now)) ∷ [])) $ split ! $ move ! (0 ∷ 3 ∷ []) $ fjoin ! $
       move ! (2 ∷ 0 ∷ []) $
-      use2 W (raw (Loader 𝓤 H A at-mem run .pre to-load)) (qed W (raw (toks 𝓤 A 16 κs qs) ∷ ‵ (fsep Sheet Lent) ∷ []) ∵ join ! $ frame ! $ done !) $ frame ! $ done !
+      use2 W (raw (Loading 𝓤 H A at-mem run .pre to-load)) (qed W (raw (toks 𝓤 A 16 κs qs) ∷ ‵ (fsep Sheet Lent) ∷ []) ∵ join ! $ frame ! $ done !) $ frame ! $ done !
 
   abbrev Answer : Load → Type 0
   Answer r = loadSays r ≡ loadAnswer (y .now) (length (x .now)) (before z)
@@ -170,7 +170,7 @@ module _ {M : Type 1} (𝓤 : URA M) (H : Heap 𝓤) (A : Atoms 𝓤) (W : Given
       0 ∷ []) $ fjoin ! $
       frame ! $ feqI ! (List Val) (vunit ∷ []) (vunit ∷ []) refl $ done !
 
-  module _ (𝓣 : Tables 𝓤 H) (known-loader : Triple 𝓤 (𝓣 .C #loader) (Loader 𝓤 H A at-mem run)) (known-put : Triple 𝓤 (𝓣 .C #put) (Put 𝓤 H A at-mem run)) where
+  module _ (𝓣 : Tables 𝓤 H) (known-loading : Triple 𝓤 (𝓣 .C #loading) (Loading 𝓤 H A at-mem run)) (known-put : Triple 𝓤 (𝓣 .C #put) (Put 𝓤 H A at-mem run)) where
     abbrev fm : FmC 𝓤 H (W .laws) (𝓣 .C)
     fm = fmOf 𝓤 H (W .laws) 𝓣
 
@@ -253,11 +253,11 @@ module _ {M : Type 1} (𝓤 : URA M) (H : Heap 𝓤) (A : Atoms 𝓤) (W : Given
         -- `loading::load`
         move ! (114 ∷ []) $ split ! $ move ! (116 ∷ []) $ fsplit ! $ move ! (3 ∷ []) $ split ! $ move ! (3 ∷ []) $ fsplit ! $ move ! (3 ∷ []) $ split ! $ move ! (3 ∷ []) $
         fsplit ! $ move ! (3 ∷ []) $ split ! $ move ! (3 ∷ []) $ fsplit ! $ move ! (1 ∷ []) $ fsplit ! $ move ! (4 ∷ 0 ∷ 1 ∷ []) $
-        use3 W (raw (Loader 𝓤 H A at-mem run .pre to-load) ⊛ ‵ Sheet) goes-load $ split ! $
-        calls-at ! fm (Loader 𝓤 H A at-mem run) known-loader to-load (and-then ! (load ! (from ! (stop !)) (look ! 112 refl)) (and-then ! (load ! (from ! (stop !)) (look ! 76 refl)) (and-then ! (load ! (from ! (stop !)) (look ! 72 refl)) (and-then ! (load ! (from ! (stop !)) (look ! 68 refl)) (and-then ! (load ! (from ! (stop !)) (look ! 64 refl)) (and-then ! (load ! (from ! (stop !)) (look ! 60 refl)) (and-then ! (load ! (from ! (stop !)) (look ! 56 refl)) (and-then ! (load ! (from ! (stop !)) (look ! 52 refl)) (and-then ! (load ! (from ! (stop !)) (look ! 48 refl)) (and-then ! (load ! (from ! (stop !)) (look ! 44 refl)) (and-then ! (load ! (from ! (stop !)) (look ! 40 refl)) (and-then ! (load ! (from ! (stop !)) (look ! 36 refl)) (and-then ! (load ! (from ! (stop !)) (look ! 32 refl)) (and-then ! (load ! (from ! (stop !)) (look ! 28 refl)) (and-then ! (load ! (from ! (stop !)) (look ! 24 refl)) (and-then ! (load ! (from ! (stop !)) (look ! 20 refl)) (no-more !))))))))))))))))) (λ u.
+        use3 W (raw (Loading 𝓤 H A at-mem run .pre to-load) ⊛ ‵ Sheet) goes-load $ split ! $
+        calls-at ! fm (Loading 𝓤 H A at-mem run) known-loading to-load (and-then ! (load ! (from ! (stop !)) (look ! 112 refl)) (and-then ! (load ! (from ! (stop !)) (look ! 76 refl)) (and-then ! (load ! (from ! (stop !)) (look ! 72 refl)) (and-then ! (load ! (from ! (stop !)) (look ! 68 refl)) (and-then ! (load ! (from ! (stop !)) (look ! 64 refl)) (and-then ! (load ! (from ! (stop !)) (look ! 60 refl)) (and-then ! (load ! (from ! (stop !)) (look ! 56 refl)) (and-then ! (load ! (from ! (stop !)) (look ! 52 refl)) (and-then ! (load ! (from ! (stop !)) (look ! 48 refl)) (and-then ! (load ! (from ! (stop !)) (look ! 44 refl)) (and-then ! (load ! (from ! (stop !)) (look ! 40 refl)) (and-then ! (load ! (from ! (stop !)) (look ! 36 refl)) (and-then ! (load ! (from ! (stop !)) (look ! 32 refl)) (and-then ! (load ! (from ! (stop !)) (look ! 28 refl)) (and-then ! (load ! (from ! (stop !)) (look ! 24 refl)) (and-then ! (load ! (from ! (stop !)) (look ! 20 refl)) (no-more !))))))))))))))))) (λ u.
         use1 W (later (some (λ (r : Load). (raw (toks 𝓤 A 16 κs qs) ⊛ ‵ (S.the-row .own r (u ∷ []))) ⊛
-        raw (ensured 𝓤 H A loader.ended (loader.clauses 𝓤 H A at-mem run) κs load-args tt r)))) (id⊢ 𝓤 _) $ await ! tt $ pick ! (λ r.
-        split ! $ move ! (1 ∷ []) $ use1 W (some (λ (ws : Unit {0} × (List Reach × Lists 14)). ‵ (lasts loader.ended κs load-args ws) ⊛ (raw (fact 𝓤 (Answer r)) ⊛
+        raw (ensured 𝓤 H A loading.ended (loading.clauses 𝓤 H A at-mem run) κs load-args tt r)))) (id⊢ 𝓤 _) $ await ! tt $ pick ! (λ r.
+        split ! $ move ! (1 ∷ []) $ use1 W (some (λ (ws : Unit {0} × (List Reach × Lists 14)). ‵ (lasts loading.ended κs load-args ws) ⊛ (raw (fact 𝓤 (Answer r)) ⊛
         (raw (fact 𝓤 (Written (ws .1 .1))) ⊛ raw (fact 𝓤 (Filled (ws .1 .0))))))) (id⊢ 𝓤 _) $ pick ! (λ ws. split ! $ move ! (1 ∷ []) $ split ! $
         heard ! (Answer r) (λ answers. split ! $ heard ! (Written (ws .1 .1)) (λ writes. heard ! (Filled (ws .1 .0)) (λ fills.
         fsplit ! $ drop ! $ fsplit ! $ fsplit ! $ move ! (1 ∷ []) $ feqL ! (λ long. move ! (1 ∷ []) $ use1 W (‵ (last 14 z (ws .1 .1)) ⊛
@@ -329,19 +329,19 @@ module _ {M : Type 1} (𝓤 : URA M) (H : Heap 𝓤) (A : Atoms 𝓤) (W : Given
         by ! (exits r (vs .1) (ws .1 .0) (ws .1 .1) answers writes fills tells hands long same)))))))))))))))))))))))))))))))))))))))))))))))))))))))))))))))))))))))))
 
 module _ {M : Type 1} (𝓤 : URA M) (H : Heap 𝓤) (A : Atoms 𝓤) (W : Given 𝓤 H A) (at-mem : Memory → SProp 𝓤) (run : Routine → Fun 𝓤) where
-  traces : (𝓣 : Tables 𝓤 H) → Triple 𝓤 (𝓣 .C #loader) (Loader 𝓤 H A at-mem run) → Triple 𝓤 (𝓣 .C #put) (Put 𝓤 H A at-mem run) →
+  traces : (𝓣 : Tables 𝓤 H) → Triple 𝓤 (𝓣 .C #loading) (Loading 𝓤 H A at-mem run) → Triple 𝓤 (𝓣 .C #put) (Put 𝓤 H A at-mem run) →
       Walks 𝓤 H A the-fn.ended stayed (WpFn 𝓤 H (𝓣 .C) (𝓣 .Λ) code.function) (the-fn.clauses 𝓤 H A at-mem run)
-  traces 𝓣 known-loader known-put =
+  traces 𝓣 known-loading known-put =
       walked 𝓤 H A the-fn.ended stayed (the-fn.clauses 𝓤 H A at-mem run) (WpFn 𝓤 H (𝓣 .C) (𝓣 .Λ) code.function)
       (λ κs. (ptr-vals, (ptr-vals, (ptr-vals, (ptr-vals, (slice-vals, (slice-vals, (slice-vals, (slice-vals, (slice-vals, (slice-vals, (slice-vals, (slice-vals, (slice-vals, (slice-vals, (slice-vals, (slice-vals, (slice-vals, (slice-vals, (slice-vals, (slice-vals, tt))))))))))))))))))))) (λ κs. (mut-tells (named 0) (κs .0) u32, (mut-tells (named 1) (κs .1 .0) u32, (mut-tells (named 2) (κs .1 .1 .0) u32, (mut-tells (named 3) (κs .1 .1 .1 .0) (Array u32 7), (shr-slice-tells (named 4) (κs .1 .1 .1 .1 .0) u8, (mut-slice-tells (named 5) (κs .1 .1 .1 .1 .1 .0) T.the-row, (mut-slice-tells (named 6) (κs .1 .1 .1 .1 .1 .1 .0) u32, (mut-slice-tells (named 7) (κs .1 .1 .1 .1 .1 .1 .1 .0) u32, (mut-slice-tells (named 8) (κs .1 .1 .1 .1 .1 .1 .1 .1 .0) u32, (mut-slice-tells (named 9) (κs .1 .1 .1 .1 .1 .1 .1 .1 .1 .0) u32, (mut-slice-tells (named 10) (κs .1 .1 .1 .1 .1 .1 .1 .1 .1 .1 .0) u32, (mut-slice-tells (named 11) (κs .1 .1 .1 .1 .1 .1 .1 .1 .1 .1 .1 .0) u32, (mut-slice-tells (named 12) (κs .1 .1 .1 .1 .1 .1 .1 .1 .1 .1 .1 .1 .0) u32, (mut-slice-tells (named 13) (κs .1 .1 .1 .1 .1 .1 .1 .1 .1 .1 .1 .1 .1 .0) u32, (mut-slice-tells (named 14) (κs .1 .1 .1 .1 .1 .1 .1 .1 .1 .1 .1 .1 .1 .1 .0) u32, (mut-slice-tells (named 15) (κs .1 .1 .1 .1 .1 .1 .1 .1 .1 .1 .1 .1 .1 .1 .1 .0) u32, (mut-slice-tells (named 16) (κs .1 .1 .1 .1 .1 .1 .1 .1 .1 .1 .1 .1 .1 .1 .1 .1 .0) u32, (mut-slice-tells (named 17) (κs .1 .1 .1 .1 .1 .1 .1 .1 .1 .1 .1 .1 .1 .1 .1 .1 .1 .0) u32, (mut-slice-tells (named 18) (κs .1 .1 .1 .1 .1 .1 .1 .1 .1 .1 .1 .1 .1 .1 .1 .1 .1 .1 .0) u32, (mut-slice-tells (named 19) (κs .1 .1 .1 .1 .1 .1 .1 .1 .1 .1 .1 .1 .1 .1 .1 .1 .1 .1 .1 .0) u32, tt)))))))))))))))))))))
-      (λ κs qs bounds a g are. via 𝓤 _ (fst∗ 𝓤 _ (emp 𝓤)) (trace 𝓤 H A W at-mem run (κs .0) (κs .1 .0) (κs .1 .1 .0) (κs .1 .1 .1 .0) (κs .1 .1 .1 .1) (qs .0) (qs .1 .0) (qs .1 .1 .0) (qs .1 .1 .1 .0) (qs .1 .1 .1 .1) (a .0) (a .1 .0) (a .1 .1 .0) (a .1 .1 .1 .0) (a .1 .1 .1 .1 .0) (a .1 .1 .1 .1 .1 .0) (a .1 .1 .1 .1 .1 .1) (are .1 .1 .1 .1 .0 .0 .1) (are .1 .1 .1 .1 .1 .0 .0 .1) (are .1 .1 .1 .1 .1 .1 .0 .0 .1, (are .1 .1 .1 .1 .1 .1 .1 .0 .0 .1, (are .1 .1 .1 .1 .1 .1 .1 .1 .0 .0 .1, (are .1 .1 .1 .1 .1 .1 .1 .1 .1 .0 .0 .1, (are .1 .1 .1 .1 .1 .1 .1 .1 .1 .1 .0 .0 .1, (are .1 .1 .1 .1 .1 .1 .1 .1 .1 .1 .1 .0 .0 .1, (are .1 .1 .1 .1 .1 .1 .1 .1 .1 .1 .1 .1 .0 .0 .1, (are .1 .1 .1 .1 .1 .1 .1 .1 .1 .1 .1 .1 .1 .0 .0 .1, (are .1 .1 .1 .1 .1 .1 .1 .1 .1 .1 .1 .1 .1 .1 .0 .0 .1, (are .1 .1 .1 .1 .1 .1 .1 .1 .1 .1 .1 .1 .1 .1 .1 .0 .0 .1, (are .1 .1 .1 .1 .1 .1 .1 .1 .1 .1 .1 .1 .1 .1 .1 .1 .0 .0 .1, (are .1 .1 .1 .1 .1 .1 .1 .1 .1 .1 .1 .1 .1 .1 .1 .1 .1 .0 .0 .1, (are .1 .1 .1 .1 .1 .1 .1 .1 .1 .1 .1 .1 .1 .1 .1 .1 .1 .1 .0 .0 .1, (are .1 .1 .1 .1 .1 .1 .1 .1 .1 .1 .1 .1 .1 .1 .1 .1 .1 .1 .1 .0 .0 .1, tt)))))))))))))) 𝓣 known-loader known-put))
+      (λ κs qs bounds a g are. via 𝓤 _ (fst∗ 𝓤 _ (emp 𝓤)) (trace 𝓤 H A W at-mem run (κs .0) (κs .1 .0) (κs .1 .1 .0) (κs .1 .1 .1 .0) (κs .1 .1 .1 .1) (qs .0) (qs .1 .0) (qs .1 .1 .0) (qs .1 .1 .1 .0) (qs .1 .1 .1 .1) (a .0) (a .1 .0) (a .1 .1 .0) (a .1 .1 .1 .0) (a .1 .1 .1 .1 .0) (a .1 .1 .1 .1 .1 .0) (a .1 .1 .1 .1 .1 .1) (are .1 .1 .1 .1 .0 .0 .1) (are .1 .1 .1 .1 .1 .0 .0 .1) (are .1 .1 .1 .1 .1 .1 .0 .0 .1, (are .1 .1 .1 .1 .1 .1 .1 .0 .0 .1, (are .1 .1 .1 .1 .1 .1 .1 .1 .0 .0 .1, (are .1 .1 .1 .1 .1 .1 .1 .1 .1 .0 .0 .1, (are .1 .1 .1 .1 .1 .1 .1 .1 .1 .1 .0 .0 .1, (are .1 .1 .1 .1 .1 .1 .1 .1 .1 .1 .1 .0 .0 .1, (are .1 .1 .1 .1 .1 .1 .1 .1 .1 .1 .1 .1 .0 .0 .1, (are .1 .1 .1 .1 .1 .1 .1 .1 .1 .1 .1 .1 .1 .0 .0 .1, (are .1 .1 .1 .1 .1 .1 .1 .1 .1 .1 .1 .1 .1 .1 .0 .0 .1, (are .1 .1 .1 .1 .1 .1 .1 .1 .1 .1 .1 .1 .1 .1 .1 .0 .0 .1, (are .1 .1 .1 .1 .1 .1 .1 .1 .1 .1 .1 .1 .1 .1 .1 .1 .0 .0 .1, (are .1 .1 .1 .1 .1 .1 .1 .1 .1 .1 .1 .1 .1 .1 .1 .1 .1 .0 .0 .1, (are .1 .1 .1 .1 .1 .1 .1 .1 .1 .1 .1 .1 .1 .1 .1 .1 .1 .1 .0 .0 .1, (are .1 .1 .1 .1 .1 .1 .1 .1 .1 .1 .1 .1 .1 .1 .1 .1 .1 .1 .1 .0 .0 .1, tt)))))))))))))) 𝓣 known-loading known-put))
 
 meets : {M : Type 1} (𝓤 : URA M) (H : Heap 𝓤) (A : Atoms 𝓤) → Given 𝓤 H A → (at-mem : Memory → SProp 𝓤) (run : Routine → Fun 𝓤) (𝓣 : Tables 𝓤 H) →
-    Triple 𝓤 (𝓣 .C #loader) (Loader 𝓤 H A at-mem run) → Triple 𝓤 (𝓣 .C #put) (Put 𝓤 H A at-mem run) →
+    Triple 𝓤 (𝓣 .C #loading) (Loading 𝓤 H A at-mem run) → Triple 𝓤 (𝓣 .C #put) (Put 𝓤 H A at-mem run) →
     Meets 𝓤 H A the-fn.signature (WpFn 𝓤 H (𝓣 .C) (𝓣 .Λ) code.function) (the-fn.spec 𝓤 H A at-mem run)
-meets 𝓤 H A W at-mem run 𝓣 known-loader known-put =
+meets 𝓤 H A W at-mem run 𝓣 known-loading known-put =
     walk-meets 𝓤 H A the-fn.ended stayed W (goes-gave-ref 𝓤 H A W 20 0 tt (plain (λ _. u32)), (goes-gave-ref 𝓤 H A W 20 1 tt (plain (λ _. u32)), (goes-gave-ref 𝓤 H A W 20 2 tt (plain (λ _. u32)), (goes-gave-ref 𝓤 H A W 20 3 tt (arrayOf (plain (λ _. u32)) 7), (goes-none-slice 𝓤 H A W 20 (4 ∷ []) tt (plain (λ _. u8)) yes, (goes-gave-slice 𝓤 H A W 20 5 tt (plain (λ _. T.the-row)), (goes-gave-slice 𝓤 H A W 20 6 tt (plain (λ _. u32)), (goes-gave-slice 𝓤 H A W 20 7 tt (plain (λ _. u32)), (goes-gave-slice 𝓤 H A W 20 8 tt (plain (λ _. u32)), (goes-gave-slice 𝓤 H A W 20 9 tt (plain (λ _. u32)), (goes-gave-slice 𝓤 H A W 20 10 tt (plain (λ _. u32)), (goes-gave-slice 𝓤 H A W 20 11 tt (plain (λ _. u32)), (goes-gave-slice 𝓤 H A W 20 12 tt (plain (λ _. u32)), (goes-gave-slice 𝓤 H A W 20 13 tt (plain (λ _. u32)), (goes-gave-slice 𝓤 H A W 20 14 tt (plain (λ _. u32)), (goes-gave-slice 𝓤 H A W 20 15 tt (plain (λ _. u32)), (goes-gave-slice 𝓤 H A W 20 16 tt (plain (λ _. u32)), (goes-gave-slice 𝓤 H A W 20 17 tt (plain (λ _. u32)), (goes-gave-slice 𝓤 H A W 20 18 tt (plain (λ _. u32)), (goes-gave-slice 𝓤 H A W 20 19 tt (plain (λ _. u32)), tt)))))))))))))))))))) (the-fn.clauses 𝓤 H A at-mem run)
-    (WpFn 𝓤 H (𝓣 .C) (𝓣 .Λ) code.function) (WpFn-mono 𝓤 H (W .laws) 𝓣 code.function) (traces 𝓤 H A W at-mem run 𝓣 known-loader known-put)
+    (WpFn 𝓤 H (𝓣 .C) (𝓣 .Λ) code.function) (WpFn-mono 𝓤 H (W .laws) 𝓣 code.function) (traces 𝓤 H A W at-mem run 𝓣 known-loading known-put)
 
 pub yumbaqel-load-spec : {M : Type 1} → stated.statement M
 unfolding code.routine tablesOf
@@ -349,5 +349,5 @@ yumbaqel-load-spec 𝓤 H 𝓜 𝓖 𝓡 =
     entered 𝓤 H (tripleOf 𝓤 H (𝓖 .A) the-fn.signature (the-fn.spec 𝓤 H (𝓖 .A) (𝓜 .mem) (𝓡 .run)))
     (tables 𝓤 H 𝓜 𝓡 code.env .C) (tables 𝓤 H 𝓜 𝓡 code.env .Λ) #the-fn code.function (code.unfolded 𝓤 H 𝓜 𝓡)
     (meets 𝓤 H (𝓖 .A) (givenOf 𝓤 H 𝓜 𝓖) (𝓜 .mem) (𝓡 .run) (tablesOf 𝓤 H 𝓜 (tables 𝓤 H 𝓜 𝓡 code.env))
-    (cited 𝓤 H (Loader 𝓤 H (𝓖 .A) (𝓜 .mem) (𝓡 .run)) 𝓜 𝓡 code.env #loader loader-def.routine code.calls-loading·load (loader-thm.met 𝓤 H 𝓜 𝓖 𝓡))
+    (cited 𝓤 H (Loading 𝓤 H (𝓖 .A) (𝓜 .mem) (𝓡 .run)) 𝓜 𝓡 code.env #loading loading-def.routine code.calls-loading·load (loading-thm.met 𝓤 H 𝓜 𝓖 𝓡))
     (cited 𝓤 H (Put 𝓤 H (𝓖 .A) (𝓜 .mem) (𝓡 .run)) 𝓜 𝓡 code.env #put put-def.routine code.calls-answers·put-load (put-thm.met 𝓤 H 𝓜 𝓖 𝓡)))
