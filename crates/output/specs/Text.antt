@@ -17,9 +17,11 @@ decimal n = digits 10 (places n) n
 unfoldable pub ended : ℕ → ℕ → List ℕ
 ended end n = decimal n ++ (end ∷ [])
 
+-- the byte between two numbers of a line
 abbrev space : ℕ
 space = 32
 
+-- the byte at the end of a line
 abbrev pub lineFeed : ℕ
 lineFeed = 10
 
