@@ -10,6 +10,7 @@ static uint8_t sheet[YUMBAQEL_LONGEST_SHEET];
 static size_t length;
 static struct yumbaqel_reach reaches[YUMBAQEL_MOST_REACHES];
 static uint32_t words[YUMBAQEL_WORDS(YUMBAQEL_MOST_SEGMENTS)], copy_words[YUMBAQEL_COPY_WORDS(YUMBAQEL_MOST_SEGMENTS)];
+static uint32_t set_words[YUMBAQEL_SET_WORDS(YUMBAQEL_MOST_SEGMENTS)];
 static uint64_t wide_words[YUMBAQEL_WIDE_WORDS(YUMBAQEL_MOST_SEGMENTS)], copy_wide_words[YUMBAQEL_WIDE_WORDS(YUMBAQEL_MOST_SEGMENTS)];
 static uint32_t row_words[YUMBAQEL_ROW_WORDS(YUMBAQEL_MOST_ROWS)];
 static struct yumbaqel_river river, copy;
@@ -25,6 +26,7 @@ static void start(void) { told = yumbaqel_river_start(&river, u); }
 static void report(void) { told = yumbaqel_river_report(&river, river.loaded.segments, &figures); }
 static void copy_state(void) { told = yumbaqel_river_copy_state(&copy, &river); }
 static void gauge(void) { found = yumbaqel_river_gauge(&river, river.loaded.gauges - 1); }
+static void flow(void) { found = yumbaqel_flow(sheet, length, 0); }
 static void dt(void) { found = yumbaqel_river_dt(&river); }
 static void dx(void) { found = yumbaqel_river_dx(&river); }
 static void version(void) { found = yumbaqel_version(); }
@@ -68,16 +70,19 @@ int main(void)
 {
     length = fread(sheet, 1, sizeof sheet, stdin);
     yumbaqel_river_lend(&river, YUMBAQEL_MOST_SEGMENTS, words, wide_words);
+    yumbaqel_river_lend_set(&river, YUMBAQEL_MOST_SEGMENTS, set_words);
     yumbaqel_river_lend_rows(&river, YUMBAQEL_MOST_ROWS, row_words);
     print_time("load", load);
     print_time("rows", rows);
     print_time("upstream", upstream);
     print_time("start", start);
+    told = yumbaqel_river_sets(&river, reaches, YUMBAQEL_MOST_REACHES);     /* a flow row that begins to hold at step 1 */
     print_time("step", step);
     print_time("report", report);
     yumbaqel_river_lend_copy(&copy, &river, YUMBAQEL_MOST_SEGMENTS, copy_words, copy_wide_words);
     print_time("copy_state", copy_state);
     print_time("gauge", gauge);
+    print_time("flow", flow);
     print_time("dt", dt);
     print_time("dx", dx);
     print_time("version", version);

@@ -2,13 +2,15 @@
 
     python3 bench/calls.py [--archive target/staticlib/libyumbaqel.a] [--runs 5]
 
-bench/calls.c makes the calls; the best of all runs counts. The first column is the largest river: 1,024 segments, 64 reaches, 256 rows,
-32 gauges. The others are what one segment, reach, row or gauge more adds, each measured from a small river to that many.
+bench/calls.c makes the calls; the best of all runs counts. The first column is the largest river without flow rows: 1,024 segments, 64
+reaches, 256 rows, 32 gauges; the second one has 64 flow rows too, and its step is one with two sets. The others are a small river, and
+what one segment, reach, row, gauge or flow row more adds to it, each measured from the small river to that many.
 """
 from __future__ import annotations
 
 import argparse
 import subprocess
+import sys
 import tempfile
 from pathlib import Path
 from typing import NamedTuple
@@ -21,19 +23,23 @@ class Size(NamedTuple):
     reaches: int = 1
     rows: int = 1
     gauges: int = 1
+    flow_rows: int = 0
 
 
 LARGEST = Size(1024, 64, 256, 32)
+LARGEST_WITH_FLOWS = LARGEST._replace(flow_rows=64)
+LONGEST_SHEET = 6_824
 SMALL = Size()
 GROWN = {"segment": SMALL._replace(segments=1024), "reach": SMALL._replace(reaches=32), "row": SMALL._replace(rows=256),
-         "gauge": SMALL._replace(gauges=32)}
+         "gauge": SMALL._replace(gauges=32), "flow row": SMALL._replace(flow_rows=64)}
 
 
 def sheet(size: Size) -> bytes:
     """A river of this size with every rate at work."""
     each, over = divmod(size.segments, size.reaches)
     lengths = [each + (at < over) for at in range(size.reaches)]
-    return packed(1_000, 1_000, lengths, [(at, 1_000 * at) for at in range(size.rows)], list(range(1, size.gauges + 1)))
+    return packed(1_000, 1_000, lengths, [(at, 1_000 * at) for at in range(size.rows)], list(range(1, size.gauges + 1)),
+                  [(at, 50_000 + 500 * at) for at in range(1, size.flow_rows + 1)])
 
 
 def timed(program: Path, size: Size, runs: int) -> dict[str, float]:
@@ -52,13 +58,15 @@ def main() -> None:
     words.add_argument("--archive", type=Path, default=ROOT / "target/staticlib/libyumbaqel.a")
     words.add_argument("--runs", type=int, default=5)
     given = words.parse_args()
+    if len(sheet(LARGEST_WITH_FLOWS)) != LONGEST_SHEET:
+        sys.exit("the largest sheet is not the longest")
     with tempfile.TemporaryDirectory() as name:
         program = compiled(Path(name), "calls.c", str(given.archive))
-        largest, small = timed(program, LARGEST, given.runs), timed(program, SMALL, given.runs)
+        largest, flows, small = (timed(program, size, given.runs) for size in (LARGEST, LARGEST_WITH_FLOWS, SMALL))
         grown = {what: timed(program, size, given.runs) for what, size in GROWN.items()}
-    print(f"{'ns':<12}{'largest':>12}{'small':>10}" + "".join(f"{'per ' + what:>14}" for what in GROWN))
+    print(f"{'ns':<12}{'largest':>12}{'64 flow rows':>14}{'small':>10}" + "".join(f"{'per ' + what:>14}" for what in GROWN))
     for call, took in largest.items():
-        line = f"{call:<12}{took:>12,.0f}{small[call]:>10,.0f}"
+        line = f"{call:<12}{took:>12,.0f}{flows[call]:>14,.0f}{small[call]:>10,.0f}"
         for what, size in GROWN.items():
             more = max(here - there for here, there in zip(size, SMALL))
             line += f"{(grown[what][call] - small[call]) / more:>14.1f}"

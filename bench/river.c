@@ -44,7 +44,7 @@ int main(void) {
     size_t got = fread(sheet, 1, sizeof sheet, stdin);
     if (got < 112)
         return 1;
-    u32 n = load(&own), steps = field(12), interval = field(16);
+    u32 n = load(&sets[0], &own, 0), steps = field(12), interval = field(16), flow = 0, old = 0;
     size_t rows_at = 28 + 64 * (size_t)field(24), gauges_at;
     u32 rows = field(rows_at), gauges;
     for (u32 i = 0; i < rows; i++) {
@@ -57,11 +57,17 @@ int main(void) {
     u32 u = upstream(rows, 0);
     text("step segment channel storage sediment\n");
     for (u32 j = 1; j <= steps; j++) {
-        u32 next = upstream(rows, j);
-        if (step_test(&own, n, u, next, j - 1, steps) != 0)
+        u32 next = upstream(rows, j), new = old;
+        if (flow_in_force(j) != flow) {
+            flow = flow_in_force(j);
+            new = 1 - old;
+            load(&sets[new], &own, flow);
+        }
+        if (step_test(&sets[old], &sets[new], &own, n, u, next, j - 1, steps) != 0)
             return 1;
-        sweep(&own, n, u, next);
+        sweep(&sets[old], &sets[new], &own, n, u, next);
         u = next;
+        old = new;
         if (j % interval == 0)
             for (u32 i = 0; i < gauges; i++) {
                 u32 at = field(gauges_at + 4 + 4 * (size_t)i);

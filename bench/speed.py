@@ -2,9 +2,10 @@
 
     python3 bench/speed.py [--river target/bin/river] [--archive target/staticlib/libyumbaqel.a] [--runs 15]
 
-bench/otis.h has document 01's arithmetic in C and bench/river.c the program; gcc -O3 compiles them. Both programs get the same
-sheets, must print the same bytes, and run in turn; the best of the runs counts. The step alone is timed by bench/steps.c, which calls
-the library's step and the one in C on the same lists. The last table shows how the time of a step grows with the segments.
+bench/otis.h has the documents' arithmetic in C and bench/river.c the program; gcc -O3 compiles them. Both programs get the same
+sheets, must print the same bytes, and run in turn; the best of the runs counts. The second table shows how the time of a step grows with
+the segments. The step alone is timed by bench/steps.c, which calls the library's step and the one in C on the same lists: with one set
+on both sides, and with two.
 """
 from __future__ import annotations
 
@@ -23,18 +24,22 @@ ROOT = HERE.parent
 ALL_RATES = (1_200, 10_000, 5_000, 100_000, 200, 100, 5_000_000, 20_000, 30_000, 50_000, 40_000, 40_000, 70, 1_000_000, 2_000_000)
 
 
-def packed(steps: int, interval: int, lengths: list[int], rows: list[tuple[int, int]], gauges: list[int]) -> bytes:
-    """Reaches of so many 1 m segments each, with every rate."""
+def packed(steps: int, interval: int, lengths: list[int], rows: list[tuple[int, int]], gauges: list[int],
+           flow_rows: list[tuple[int, int]]) -> bytes:
+    """Reaches of so many 1 m segments each, with every rate; marked OTR2 where there are flow rows."""
     words = [2, 100, steps, interval, 50_000, len(lengths), *(field for length in lengths for field in (length, *ALL_RATES)),
              len(rows), *(field for row in rows for field in row), len(gauges), *gauges]
-    return b"OTR1" + struct.pack(f"<{len(words)}I", *words)
+    if flow_rows:
+        words += [len(flow_rows), *(field for row in flow_rows for field in row)]
+    return (b"OTR2" if flow_rows else b"OTR1") + struct.pack(f"<{len(words)}I", *words)
 
 
-def sheet(segments: int, steps: int, interval: int) -> bytes:
-    """One reach, a pulse upstream, gauges at the quarters."""
+def sheet(segments: int, steps: int, interval: int, flow_rows: int = 0) -> bytes:
+    """One reach, a pulse upstream, gauges at the quarters; so many flow rows, with flows that rise and fall."""
     rows = [(0, 3_000_000), (steps // 10, 100_000_000), (steps // 2, 3_000_000)]
     gauges = sorted({max(1, segments * quarter // 4) for quarter in (1, 2, 3, 4)})
-    return packed(steps, interval, [segments], rows, gauges)
+    flows = [(1 + at * steps // flow_rows, 90_000 if at % 2 else 70_000) for at in range(flow_rows)]
+    return packed(steps, interval, [segments], rows, gauges, flows)
 
 
 def seconds(program: Path, given: bytes) -> tuple[float, bytes]:
@@ -82,7 +87,8 @@ def main() -> None:
         plain = compiled(folder, "river.c")
         print(f"{'job':<34}{'river s':>10}{'C s':>10}{'ratio':>8}{'ns per segment and step':>26}")
         jobs = [("Uvas Creek, chloride", (ROOT / "examples/uvas-chloride.otr").read_bytes()),
-                ("1,024 segments with all rates", sheet(1024, 10_000, 100))]
+                ("1,024 segments with all rates", sheet(1024, 10_000, 100)),
+                ("the same with 4 flow rows", sheet(1024, 10_000, 100, 4))]
         for job, bytes_in in jobs:
             ours, theirs = side_by_side(given.river, plain, bytes_in, given.runs)
             print(f"{job:<34}{ours:>10.3f}{theirs:>10.3f}{ours / theirs:>8.2f}{ours / segment_steps(bytes_in) * 1e9:>26.1f}")
@@ -94,7 +100,7 @@ def main() -> None:
         if given.archive.exists():
             print("\nthe step alone")
             steps = compiled(folder, "steps.c", str(given.archive))
-            print(subprocess.run([steps], input=jobs[1][1], stdout=subprocess.PIPE, check=True).stdout.decode(), end="")
+            print(subprocess.run([steps], input=jobs[2][1], stdout=subprocess.PIPE, check=True).stdout.decode(), end="")
 
 
 if __name__ == "__main__":

@@ -1,4 +1,5 @@
-/* The proved step beside the one in C, called in turn on the same river: a sheet on standard input, times on standard output. */
+/* The proved step beside the one in C, called in turn on the same river: a sheet with a flow row on standard input, times on standard
+   output; first with one set on both sides, then with the two sets of the step at which the row begins to hold. */
 #include <stdio.h>
 #include <stdlib.h>
 #include <string.h>
@@ -18,42 +19,43 @@ static double seconds(void) {
     return (double)now.tv_sec + 1e-9 * (double)now.tv_nsec;
 }
 
-static uint32_t library_words[YUMBAQEL_WORDS(SEGMENTS)];
+static uint32_t library_words[YUMBAQEL_WORDS(SEGMENTS)], library_set_words[YUMBAQEL_SET_WORDS(SEGMENTS)];
 static uint64_t library_wide_words[YUMBAQEL_WIDE_WORDS(SEGMENTS)];
 static struct yumbaqel_reach reaches[YUMBAQEL_MOST_REACHES];
+static struct yumbaqel_river river;
 
 static void fail(const char *why) {
     fprintf(stderr, "steps: %s\n", why);
     exit(1);
 }
 
-int main(void) {
-    size_t got = fread(sheet, 1, sizeof sheet, stdin);
-    struct yumbaqel_river river;
-    yumbaqel_river_lend(&river, SEGMENTS, library_words, library_wide_words);
-    if (yumbaqel_river_load(&river, sheet, got, reaches, YUMBAQEL_MOST_REACHES).number != 0)
-        fail("the sheet is refused");
-    u32 n = load(&own), u = 100000000;
-    if (yumbaqel_river_start(&river, u).number != 0)
+/* Steps of both, with set number 0 on the old side and set number `side` on the new one. */
+static void compare(const char *title, int side, u32 n, u32 u) {
+    const struct yumbaqel_set *library_old = &river.sets[0], *library_new = &river.sets[side];
+    const struct set *old = &sets[0], *new = &sets[side];
+    double proved = 1e9, tested = 1e9, untested = 1e9;
+    struct yumbaqel_refusal told = yumbaqel_river_start(&river, u);
+    u32 done = 0;
+    if (told.number != 0)
         fail("the start is refused");
     begin(n);
-
-    double proved = 1e9, tested = 1e9, untested = 1e9;
-    u32 done = 0;
-    river.loaded.steps = 100000;
     for (int round = 0; round < ROUNDS; round++) {
         double begun = seconds();
-        for (int j = 0; j < STEPS; j++)
-            if (yumbaqel_river_step(&river, u).number != 0)
+        for (int j = 0; j < STEPS; j++) {
+            yumbaqel_step(&told.number, &told.kind, &told.place, n, YUMBAQEL_SET(library_old), YUMBAQEL_SET(library_new),
+                          YUMBAQEL_OTHERS(&river), YUMBAQEL_FIGURES(&river), &river.upstream, &river.done,
+                          river.p.at, river.p.length, river.y.at, river.y.length, u, 100000);
+            if (told.number != 0)
                 fail("a step is refused");
+        }
         double took = seconds() - begun;
         proved = took < proved ? took : proved;
 
         begun = seconds();
         for (int j = 0; j < STEPS; j++) {
-            if (step_test(&own, n, u, u, done++, 100000) != 0)
+            if (step_test(old, new, &own, n, u, u, done++, 100000) != 0)
                 fail("a step in C is refused");
-            sweep(&own, n, u, u);
+            sweep(old, new, &own, n, u, u);
         }
         took = seconds() - begun;
         tested = took < tested ? took : tested;
@@ -65,13 +67,30 @@ int main(void) {
     for (int round = 0; round < ROUNDS; round++) {
         double begun = seconds();
         for (int j = 0; j < STEPS; j++)
-            sweep(&own, n, u, u);
+            sweep(old, new, &own, n, u, u);
         double took = seconds() - begun;
         untested = took < untested ? took : untested;
     }
     double each = 1e9 / n / STEPS;
+    printf("%s\n", title);
     printf("proved step                        %6.1f ns per segment\n", proved * each);
     printf("step in C, tests 13 to 15 and all  %6.1f ns per segment   ratio %.2f\n", tested * each, proved / tested);
     printf("sweep in C without the tests       %6.1f ns per segment   ratio %.2f\n", untested * each, proved / untested);
+}
+
+int main(void) {
+    size_t got = fread(sheet, 1, sizeof sheet, stdin);
+    yumbaqel_river_lend(&river, SEGMENTS, library_words, library_wide_words);
+    yumbaqel_river_lend_set(&river, SEGMENTS, library_set_words);
+    if (yumbaqel_river_load(&river, sheet, got, reaches, YUMBAQEL_MOST_REACHES).number != 0)
+        fail("the sheet is refused");
+    if (yumbaqel_river_load_flow(&river, 1, 0, reaches, YUMBAQEL_MOST_REACHES).number != 0)
+        fail("the sheet has no flow row");
+    u32 n = load(&sets[0], &own, 0);
+    load(&sets[1], &own, 1);
+    if (memcmp(sets[0].e, sets[1].e, n * sizeof(u32)) == 0)
+        fail("the flow row changes nothing");
+    compare("one set on both sides", 0, n, 100000000);
+    compare("two sets", 1, n, 100000000);
     return 0;
 }

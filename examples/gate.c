@@ -4,8 +4,9 @@
  *     gate SHEET GAUGE LIMIT
  *
  * SHEET is a river sheet ("-": standard input), GAUGE one of its gauges, from 1, and LIMIT a concentration in ng/L. The river is stepped
- * through the sheet's M steps with U from the sheet's boundary rows; a controller hands over its reading upstream instead. The gate is
- * open at the start; a line is printed whenever it moves, and at the end how many steps were made.
+ * through the sheet's M steps with U from the sheet's boundary rows; a controller hands over its reading upstream instead. The flow is
+ * that of the sheet's flow rows, if it has any. The gate is open at the start; a line is printed whenever it moves, and at the end how many
+ * steps were made.
  */
 #include "console.h"
 
@@ -14,6 +15,7 @@ static uint8_t sheet[YUMBAQEL_LONGEST_SHEET + 1];
 static struct yumbaqel_reach reaches[YUMBAQEL_MOST_REACHES];
 static uint32_t words[YUMBAQEL_WORDS(YUMBAQEL_MOST_SEGMENTS)];
 static uint64_t wide_words[YUMBAQEL_WIDE_WORDS(YUMBAQEL_MOST_SEGMENTS)];
+static uint32_t set_words[YUMBAQEL_SET_WORDS(YUMBAQEL_MOST_SEGMENTS)];
 static uint32_t row_words[YUMBAQEL_ROW_WORDS(YUMBAQEL_MOST_ROWS)];
 
 int main(int count, char **arguments)
@@ -32,6 +34,7 @@ int main(int count, char **arguments)
     limit = strtoul(arguments[3], NULL, 10);
 
     yumbaqel_river_lend(&river, YUMBAQEL_MOST_SEGMENTS, words, wide_words);
+    yumbaqel_river_lend_set(&river, YUMBAQEL_MOST_SEGMENTS, set_words);
     yumbaqel_river_lend_rows(&river, YUMBAQEL_MOST_ROWS, row_words);
     need(yumbaqel_river_load(&river, sheet, read_bytes(arguments[1], sheet, sizeof sheet), reaches, YUMBAQEL_MOST_REACHES));
     need(yumbaqel_river_rows(&river));
@@ -43,6 +46,7 @@ int main(int count, char **arguments)
     need(yumbaqel_river_start(&river, u));
     while (river.done < river.loaded.steps) {
         need(yumbaqel_river_upstream(&river, river.done + 1, &u));
+        need(yumbaqel_river_sets(&river, reaches, YUMBAQEL_MOST_REACHES));
         need(yumbaqel_river_step(&river, u));
         need(yumbaqel_river_report(&river, segment, &figures));
         if ((figures.channel > limit) != shut) {

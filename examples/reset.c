@@ -14,6 +14,7 @@ static uint8_t sheet[YUMBAQEL_LONGEST_SHEET + 1];
 static struct yumbaqel_reach reaches[YUMBAQEL_MOST_REACHES];
 static uint32_t words[YUMBAQEL_WORDS(YUMBAQEL_MOST_SEGMENTS)];
 static uint64_t wide_words[YUMBAQEL_WIDE_WORDS(YUMBAQEL_MOST_SEGMENTS)];
+static uint32_t set_words[YUMBAQEL_SET_WORDS(YUMBAQEL_MOST_SEGMENTS)];
 static uint32_t row_words[YUMBAQEL_ROW_WORDS(YUMBAQEL_MOST_ROWS)];
 
 /* A copy in words: its number, U, the count of steps, C, Z and W of each segment; and the check of all these. */
@@ -134,6 +135,7 @@ int main(int count, char **arguments)
 
     /* After a reset everything but those copies is made anew: a call that was broken off has left the river's lists half-written. */
     yumbaqel_river_lend(&river, YUMBAQEL_MOST_SEGMENTS, words, wide_words);
+    yumbaqel_river_lend_set(&river, YUMBAQEL_MOST_SEGMENTS, set_words);
     yumbaqel_river_lend_rows(&river, YUMBAQEL_MOST_ROWS, row_words);
     need(yumbaqel_river_load(&river, sheet, read_bytes(arguments[1], sheet, sizeof sheet), reaches, YUMBAQEL_MOST_REACHES));
     need(yumbaqel_river_rows(&river));
@@ -150,6 +152,7 @@ int main(int count, char **arguments)
         if (river.done == river.loaded.steps)
             break;
         need(yumbaqel_river_upstream(&river, river.done + 1, &u));
+        need(yumbaqel_river_sets(&river, reaches, YUMBAQEL_MOST_REACHES));   /* after a reset also that of the flow in force */
         need(yumbaqel_river_step(&river, u));
         keep(&river, ++number);
     }

@@ -2,7 +2,7 @@
  * Yumbaqel: the OTIS river inside an intake gate controller, for C99 and C++.
  *
  * Link libyumbaqel.a, which `rt staticlib yumbaqel` writes (docs/C.md). Every function below is total: it takes any bytes, figures and
- * lengths, and its outcome is proved to be the one that document 01 (docs/01-scope.md) sets out.
+ * lengths, and its outcome is proved to be the one that documents 01 (docs/01-scope.md) and 02 (docs/02-change-requests.md, 1) set out.
  *
  * What the caller owes, for every function:
  *   - each pointer is not null and aligned for what it points at, also where its length is 0;
@@ -28,7 +28,7 @@
 extern "C" {
 #endif
 
-#define YUMBAQEL_VERSION 10100           /* of this header, 1.1.0: major x 10,000 + minor x 100 + patch */
+#define YUMBAQEL_VERSION 20000           /* of this header, 2.0.0: major x 10,000 + minor x 100 + patch */
 #define YUMBAQEL_SCALE 1073741824        /* one whole, 2^30 */
 #define YUMBAQEL_HIGHEST 1000000000      /* the highest concentration, ng/L */
 #define YUMBAQEL_MOST_SEGMENTS 1024
@@ -36,10 +36,16 @@ extern "C" {
 #define YUMBAQEL_MOST_REACHES 64
 #define YUMBAQEL_MOST_ROWS 256
 #define YUMBAQEL_MOST_GAUGES 32
-#define YUMBAQEL_LONGEST_SHEET 6308      /* bytes */
+#define YUMBAQEL_MOST_FLOW_ROWS 64
+#define YUMBAQEL_NO_FLOW 65              /* the number of no flow: a sheet has the flow at the top, 0, and those of its rows, up to 64 */
+#define YUMBAQEL_LONGEST_SHEET 6824      /* bytes */
 #define YUMBAQEL_STACK 2048              /* bytes of stack that any call needs at most, x86-64 */
 
-/* The numbered refusals, in document 01's words. */
+/*
+ * The numbered refusals, in the documents' words. Where the sheet has flow rows (it is marked OTR2), these are its last section, and 2 and
+ * 4 speak of the last flow row. 16 is looked at after 9. Each of 10 to 12 is looked for in the flow at the top and then in that of every
+ * flow row, before the next. 13 is also a flow row's number past the rows, and in a step 14 looks at both sets.
+ */
 enum yumbaqel_number {
     YUMBAQEL_ACCEPTED = 0,
     YUMBAQEL_MARK = 1,             /* Fewer than four bytes, or another mark. */
@@ -59,7 +65,8 @@ enum yumbaqel_number {
     YUMBAQEL_FIGURE = 14,          /* A half-step sum (T, V or h) exceeds one whole, the last g is not 0, Kd exceeds 1,000, a
                                       concentration exceeds its limit, or M or the count of steps exceeds 100,000 (segment; nothing
                                       for U, U', M or the count, which are looked at after all segments). */
-    YUMBAQEL_STEPS_DONE = 15       /* M or more steps are done. */
+    YUMBAQEL_STEPS_DONE = 15,      /* M or more steps are done. */
+    YUMBAQEL_FLOW_ROW = 16         /* A flow row breaks its rule (row). */
 };
 
 /* What the place of a refusal is. */
@@ -67,7 +74,7 @@ enum yumbaqel_kind {
     YUMBAQEL_NOTHING = 0,
     YUMBAQEL_REACH = 1,
     YUMBAQEL_SEGMENT = 2,
-    YUMBAQEL_ROW = 3               /* a boundary row or, of refusal 9, a gauge */
+    YUMBAQEL_ROW = 3               /* a boundary row or, of refusal 9, a gauge, of 16 a flow row */
 };
 
 /* A reach record: the sixteen fields of a reach, in the sheet's order and units. */
@@ -99,20 +106,24 @@ struct yumbaqel_loaded {
     uint32_t rows;                 /* how many there are */
     uint32_t gauges_at;            /* and the gauges */
     uint32_t gauges;
+    uint32_t flow_rows_at;         /* and the flow rows; both are 0 where the sheet has none (OTR1) */
+    uint32_t flow_rows;
 };
 
 /* A length of -1 where the compiler lays them out otherwise than the library. */
 typedef char yumbaqel_reach_has_64_bytes[2 * (sizeof(struct yumbaqel_reach) == 64) - 1];
-typedef char yumbaqel_loaded_has_28_bytes[2 * (sizeof(struct yumbaqel_loaded) == 28) - 1];
+typedef char yumbaqel_loaded_has_36_bytes[2 * (sizeof(struct yumbaqel_loaded) == 36) - 1];
 
 /*
- * A loading. Tests 1 to 13 on any bytes and any lists. Accepted, it writes *loaded, the first entries of the fourteen lists (the ten
- * half-step numbers e to s, then CL, CB, Kd and the start figure), one for each segment, and those of the reach records, one for each
- * reach. Lists of YUMBAQEL_MOST_SEGMENTS and YUMBAQEL_MOST_REACHES entries are long enough for every sheet.
+ * A loading for one of the sheet's flows: row is 0 for the flow at the top, else the number of a flow row. Tests 1 to 13 and 16 on any
+ * bytes and any lists, and 10 to 12 of every flow, whichever row it is handed. Accepted, it writes *loaded, the first entries of the
+ * fourteen lists (that flow's set, which is the ten half-step numbers e to s, then CL, CB, Kd and the start figure), one for each segment,
+ * and those of the reach records, one for each reach. All but the set is the same for every flow. Lists of YUMBAQEL_MOST_SEGMENTS and
+ * YUMBAQEL_MOST_REACHES entries are long enough for every sheet.
  */
 void yumbaqel_load(
     uint32_t *number, uint32_t *kind, uint32_t *place, struct yumbaqel_loaded *loaded,
-    const uint8_t *sheet, size_t sheet_length,
+    const uint8_t *sheet, size_t sheet_length, uint32_t row,
     struct yumbaqel_reach *reaches, size_t reaches_length,
     uint32_t *e, size_t e_length, uint32_t *g, size_t g_length, uint32_t *l, size_t l_length,
     uint32_t *a, size_t a_length, uint32_t *b, size_t b_length, uint32_t *k, size_t k_length,
@@ -123,7 +134,7 @@ void yumbaqel_load(
 /*
  * A start of n segments. Tests 13 and 14. Accepted, it writes the first n entries of channel, storage and sediment (C, Z and W: the
  * start figure), *upstream (the state's U: u, which is U at step 0) and *done (the state's count of steps: 0). It looks at nothing that
- * it overwrites.
+ * it overwrites. Of a sheet's flows any one's set may be lent to it, and so to a report.
  */
 void yumbaqel_start(
     uint32_t *number, uint32_t *kind, uint32_t *place,
@@ -138,13 +149,19 @@ void yumbaqel_start(
     uint32_t u);
 
 /*
- * A step of n segments. Tests 13 to 15; u is U' and steps is M. Accepted, it writes the first n entries of channel, storage and
- * sediment, *upstream (u) and *done (one more), and the first n entries of the working lists p and y, whose content is of no matter
- * before and of no use afterwards.
+ * A step of n segments. Tests 13 to 15; u is U' and steps is M. It is lent two sets: e0 to s0 is that of its old side, the flow in force
+ * at step *done, and e to s that of its new side, the flow in force at step *done + 1 (yumbaqel_flow). Where the two are one flow the same
+ * lists may be lent twice, as they are only read. Accepted, it writes the first n entries of channel, storage and sediment, *upstream (u)
+ * and *done (one more), and the first n entries of the working lists p and y, whose content is of no matter before and of no use
+ * afterwards.
  */
 void yumbaqel_step(
     uint32_t *number, uint32_t *kind, uint32_t *place,
     uint32_t n,
+    const uint32_t *e0, size_t e0_length, const uint32_t *g0, size_t g0_length, const uint32_t *l0, size_t l0_length,
+    const uint32_t *a0, size_t a0_length, const uint32_t *b0, size_t b0_length, const uint32_t *k0, size_t k0_length,
+    const uint32_t *ks0, size_t ks0_length, const uint32_t *h0, size_t h0_length, const uint32_t *m0, size_t m0_length,
+    const uint32_t *s0, size_t s0_length,
     const uint32_t *e, size_t e_length, const uint32_t *g, size_t g_length, const uint32_t *l, size_t l_length,
     const uint32_t *a, size_t a_length, const uint32_t *b, size_t b_length, const uint32_t *k, size_t k_length,
     const uint32_t *ks, size_t ks_length, const uint32_t *h, size_t h_length, const uint32_t *m, size_t m_length,
@@ -192,6 +209,13 @@ void yumbaqel_rows(
 /* Gauge j of a sheet that a loading accepted: the number of its segment. j counts from 0. Nothing is tested or written. */
 uint32_t yumbaqel_gauge(const uint8_t *sheet, size_t sheet_length, size_t j);
 
+/*
+ * The number of the flow in force at step j of a sheet that a loading accepted: the last of its flow rows that starts at or before j, or 0,
+ * the flow at the top, where none does. Of other bytes too: 0 where the mark is not OTR2, else the last of as many rows as the count says,
+ * bytes past the sheet's end counting as 0. Nothing is tested or written.
+ */
+uint32_t yumbaqel_flow(const uint8_t *sheet, size_t sheet_length, uint32_t j);
+
 /* dt of a sheet in s, and dx in cm. Bytes past the sheet's end count as 0. Nothing is tested or written. */
 uint32_t yumbaqel_dt(const uint8_t *sheet, size_t sheet_length);
 uint32_t yumbaqel_dx(const uint8_t *sheet, size_t sheet_length);
@@ -199,7 +223,7 @@ uint32_t yumbaqel_dx(const uint8_t *sheet, size_t sheet_length);
 /* The library's own version. The header belongs to it where this is YUMBAQEL_VERSION. */
 uint32_t yumbaqel_version(void);
 
-/* ---- The same calls on one struct, for a caller who has no wish to hand over twenty lists by hand. */
+/* ---- The same calls on one struct, for a caller who has no wish to hand over thirty lists by hand. */
 
 struct yumbaqel_list {
     uint32_t *at;
@@ -211,14 +235,21 @@ struct yumbaqel_wide_list {
     size_t length;
 };
 
+/* A set: the half-step numbers of one flow. */
+struct yumbaqel_set {
+    struct yumbaqel_list e, g, l, a, b, k, ks, h, m, s;
+    uint32_t flow;                 /* the number of the flow that it was loaded for, or YUMBAQEL_NO_FLOW */
+};
+
 /* What the calls are lent: the lists of a loading, the state, the working lists, the sheet and its rows; and what a loading handed out. */
 struct yumbaqel_river {
-    struct yumbaqel_list e, g, l, a, b, k, ks, h, m, s, cl, cb, kd, start;
+    struct yumbaqel_set sets[2];   /* where a flow row begins to hold a step needs two; without flow rows the first one serves both sides */
+    struct yumbaqel_list cl, cb, kd, start;
     struct yumbaqel_list channel, storage, sediment;
     uint32_t upstream, done;
     struct yumbaqel_wide_list p, y;
     struct yumbaqel_loaded loaded;
-    const uint8_t *sheet;          /* as loaded; the caller keeps it as it is while rows, gauges, dt or dx are asked for */
+    const uint8_t *sheet;          /* as loaded; the caller keeps it as it is while rows, gauges, flows, dt or dx are asked for */
     size_t sheet_length;
     struct yumbaqel_list starts, concentrations;
     uint32_t rows;                 /* how many rows yumbaqel_river_rows has put into these two; 0 before */
@@ -233,8 +264,10 @@ struct yumbaqel_figures {
     uint64_t sediment;             /* Kd x W */
 };
 
-/* Entries to lend: to a river of this many segments, to a copy of one, to either's working lists; and for this many boundary rows. */
+/* Entries to lend: to a river of this many segments, for its second set, to a copy of one, to either's working lists; and for this many
+   boundary rows. */
 #define YUMBAQEL_WORDS(segments) (17 * (segments))
+#define YUMBAQEL_SET_WORDS(segments) (10 * (segments))
 #define YUMBAQEL_COPY_WORDS(segments) (3 * (segments))
 #define YUMBAQEL_WIDE_WORDS(segments) (2 * (segments))
 #define YUMBAQEL_ROW_WORDS(rows) (2 * (rows))
@@ -247,6 +280,15 @@ static inline void yumbaqel_divide(struct yumbaqel_list *const *lists, size_t co
         lists[i]->at = words + i * length;
         lists[i]->length = length;
     }
+}
+
+/* Lends a set YUMBAQEL_SET_WORDS(segments) entries. It is that of no flow yet. */
+static inline void yumbaqel_set_lend(struct yumbaqel_set *set, size_t segments, uint32_t *words)
+{
+    struct yumbaqel_list *const lists[] = {
+        &set->e, &set->g, &set->l, &set->a, &set->b, &set->k, &set->ks, &set->h, &set->m, &set->s};
+    yumbaqel_divide(lists, sizeof lists / sizeof *lists, segments, words);
+    set->flow = YUMBAQEL_NO_FLOW;
 }
 
 /* Lends a river lists for its state and its working lists: YUMBAQEL_COPY_WORDS(segments) and YUMBAQEL_WIDE_WORDS(segments) entries.
@@ -271,44 +313,55 @@ static inline void yumbaqel_river_lend_rows(struct yumbaqel_river *river, size_t
     river->rows = 0;
 }
 
+/* Lends a river YUMBAQEL_SET_WORDS(segments) entries for its second set. A river whose sheet has no flow rows needs none. */
+static inline void yumbaqel_river_lend_set(struct yumbaqel_river *river, size_t segments, uint32_t *words)
+{
+    yumbaqel_set_lend(&river->sets[1], segments, words);
+}
+
 /* Lends a river YUMBAQEL_WORDS(segments) and YUMBAQEL_WIDE_WORDS(segments) entries: room for that many segments. It is not loaded yet,
-   and has no room for rows. */
+   and has no room for a second set and for rows. */
 static inline void yumbaqel_river_lend(struct yumbaqel_river *river, size_t segments, uint32_t *words, uint64_t *wide_words)
 {
-    struct yumbaqel_list *const lists[] = {
-        &river->e, &river->g, &river->l, &river->a, &river->b, &river->k, &river->ks, &river->h, &river->m,
-        &river->s, &river->cl, &river->cb, &river->kd, &river->start};
-    const struct yumbaqel_loaded none = {0, 0, 0, 0, 0, 0, 0};
+    struct yumbaqel_list *const lists[] = {&river->cl, &river->cb, &river->kd, &river->start};
+    const struct yumbaqel_loaded none = {0, 0, 0, 0, 0, 0, 0, 0, 0};
     const size_t count = sizeof lists / sizeof *lists;
-    yumbaqel_divide(lists, count, segments, words);
-    yumbaqel_river_lend_state(river, segments, words + count * segments, wide_words);
+    uint32_t *const behind = words + YUMBAQEL_SET_WORDS(segments);
+    yumbaqel_set_lend(&river->sets[0], segments, words);
+    yumbaqel_divide(lists, count, segments, behind);
+    yumbaqel_river_lend_state(river, segments, behind + count * segments, wide_words);
+    yumbaqel_river_lend_set(river, 0, words);
     yumbaqel_river_lend_rows(river, 0, words);
     river->loaded = none;
     river->sheet = (const uint8_t *)words;      /* no byte of it: a pointer is never null */
     river->sheet_length = 0;
 }
 
-/* The fourteen lists of a river as arguments. */
-#define YUMBAQEL_LISTS(r)                                                                                               \
-    (r)->e.at, (r)->e.length, (r)->g.at, (r)->g.length, (r)->l.at, (r)->l.length, (r)->a.at, (r)->a.length,             \
-    (r)->b.at, (r)->b.length, (r)->k.at, (r)->k.length, (r)->ks.at, (r)->ks.length, (r)->h.at, (r)->h.length,           \
-    (r)->m.at, (r)->m.length, (r)->s.at, (r)->s.length, (r)->cl.at, (r)->cl.length, (r)->cb.at, (r)->cb.length,         \
-    (r)->kd.at, (r)->kd.length, (r)->start.at, (r)->start.length
+/* As arguments: the ten lists of a set, the four other lists of a loading, and those of the state. */
+#define YUMBAQEL_SET(set)                                                                                               \
+    (set)->e.at, (set)->e.length, (set)->g.at, (set)->g.length, (set)->l.at, (set)->l.length,                           \
+    (set)->a.at, (set)->a.length, (set)->b.at, (set)->b.length, (set)->k.at, (set)->k.length,                           \
+    (set)->ks.at, (set)->ks.length, (set)->h.at, (set)->h.length, (set)->m.at, (set)->m.length, (set)->s.at, (set)->s.length
+#define YUMBAQEL_OTHERS(r)                                                                                              \
+    (r)->cl.at, (r)->cl.length, (r)->cb.at, (r)->cb.length, (r)->kd.at, (r)->kd.length, (r)->start.at, (r)->start.length
 #define YUMBAQEL_FIGURES(r)                                                                                             \
     (r)->channel.at, (r)->channel.length, (r)->storage.at, (r)->storage.length, (r)->sediment.at, (r)->sediment.length
 
-/* A loading. The reach records are the caller's; the river keeps where the sheet is. Its rows are to be taken anew. */
+/* A loading, for the flow at the top, into the first set. The reach records are the caller's; the river keeps where the sheet is. Its
+   rows are to be taken anew, and of a second set nothing stays. */
 static inline struct yumbaqel_refusal yumbaqel_river_load(
     struct yumbaqel_river *river, const uint8_t *sheet, size_t sheet_length,
     struct yumbaqel_reach *reaches, size_t reaches_length)
 {
     struct yumbaqel_refusal told;
     yumbaqel_load(&told.number, &told.kind, &told.place, &river->loaded,
-                  sheet, sheet_length, reaches, reaches_length, YUMBAQEL_LISTS(river));
+                  sheet, sheet_length, 0, reaches, reaches_length, YUMBAQEL_SET(&river->sets[0]), YUMBAQEL_OTHERS(river));
     if (told.number == YUMBAQEL_ACCEPTED) {
         river->sheet = sheet;
         river->sheet_length = sheet_length;
         river->rows = 0;
+        river->sets[0].flow = 0;
+        river->sets[1].flow = YUMBAQEL_NO_FLOW;
     }
     return told;
 }
@@ -351,21 +404,71 @@ static inline uint32_t yumbaqel_river_dx(const struct yumbaqel_river *river)
     return yumbaqel_dx(river->sheet, river->sheet_length);
 }
 
+/* The number of the flow in force at step j of the river's sheet; 0 where it has no flow rows. */
+static inline uint32_t yumbaqel_river_flow(const struct yumbaqel_river *river, uint32_t j)
+{
+    return river->loaded.flow_rows != 0 ? yumbaqel_flow(river->sheet, river->sheet_length, j) : 0;
+}
+
+/* The river's set of a flow, or NULL where it has none. */
+static inline const struct yumbaqel_set *yumbaqel_river_set(const struct yumbaqel_river *river, uint32_t flow)
+{
+    if (river->sets[0].flow == flow)
+        return &river->sets[0];
+    return river->sets[1].flow == flow ? &river->sets[1] : NULL;
+}
+
+/* Loads the set of a flow of the river's sheet, unless it is there, in place of the set that is not that of the flow to keep. Beside it
+   nothing changes: M stays as it is in the river. */
+static inline struct yumbaqel_refusal yumbaqel_river_load_flow(
+    struct yumbaqel_river *river, uint32_t flow, uint32_t keep, struct yumbaqel_reach *reaches, size_t reaches_length)
+{
+    struct yumbaqel_refusal told = {0, 0, 0};
+    struct yumbaqel_set *const set = river->sets[0].flow == keep ? &river->sets[1] : &river->sets[0];
+    struct yumbaqel_loaded loaded;
+    if (yumbaqel_river_set(river, flow) != NULL)
+        return told;
+    yumbaqel_load(&told.number, &told.kind, &told.place, &loaded, river->sheet, river->sheet_length, flow,
+                  reaches, reaches_length, YUMBAQEL_SET(set), YUMBAQEL_OTHERS(river));
+    if (told.number == YUMBAQEL_ACCEPTED)
+        set->flow = flow;
+    return told;
+}
+
+/* Loads the sets of the river's next step that it has not yet, at any time between two steps. In a run that is each flow row's set, once,
+   when it begins to hold; after a start, or with a state from elsewhere, the set of the flow in force too. 13 where a flow row begins to
+   hold and the river was lent no second set. Without flow rows it loads nothing. */
+static inline struct yumbaqel_refusal yumbaqel_river_sets(
+    struct yumbaqel_river *river, struct yumbaqel_reach *reaches, size_t reaches_length)
+{
+    const uint32_t old_flow = yumbaqel_river_flow(river, river->done), new_flow = yumbaqel_river_flow(river, river->done + 1);
+    struct yumbaqel_refusal told = yumbaqel_river_load_flow(river, old_flow, new_flow, reaches, reaches_length);
+    if (told.number == YUMBAQEL_ACCEPTED)
+        told = yumbaqel_river_load_flow(river, new_flow, old_flow, reaches, reaches_length);
+    return told;
+}
+
 /* A start of the river as loaded. */
 static inline struct yumbaqel_refusal yumbaqel_river_start(struct yumbaqel_river *river, uint32_t u)
 {
     struct yumbaqel_refusal told;
-    yumbaqel_start(&told.number, &told.kind, &told.place, river->loaded.segments,
-                   YUMBAQEL_LISTS(river), YUMBAQEL_FIGURES(river), &river->upstream, &river->done, u);
+    yumbaqel_start(&told.number, &told.kind, &told.place, river->loaded.segments, YUMBAQEL_SET(&river->sets[0]), YUMBAQEL_OTHERS(river),
+                   YUMBAQEL_FIGURES(river), &river->upstream, &river->done, u);
     return told;
 }
 
-/* A step of the river as loaded. M is loaded.steps: the sheet's, unless the caller puts another figure there. */
+/* A step of the river as loaded: 13 where it has not the sets of that step (yumbaqel_river_sets). M is loaded.steps: the sheet's, unless
+   the caller puts another figure there. */
 static inline struct yumbaqel_refusal yumbaqel_river_step(struct yumbaqel_river *river, uint32_t u)
 {
-    struct yumbaqel_refusal told;
+    struct yumbaqel_refusal told = {YUMBAQEL_SHORT_LIST, 0, 0};
+    const struct yumbaqel_set *const old_set = yumbaqel_river_set(river, yumbaqel_river_flow(river, river->done));
+    const struct yumbaqel_set *const new_set = yumbaqel_river_set(river, yumbaqel_river_flow(river, river->done + 1));
+    if (old_set == NULL || new_set == NULL)
+        return told;
     yumbaqel_step(&told.number, &told.kind, &told.place, river->loaded.segments,
-                  YUMBAQEL_LISTS(river), YUMBAQEL_FIGURES(river), &river->upstream, &river->done,
+                  YUMBAQEL_SET(old_set), YUMBAQEL_SET(new_set), YUMBAQEL_OTHERS(river),
+                  YUMBAQEL_FIGURES(river), &river->upstream, &river->done,
                   river->p.at, river->p.length, river->y.at, river->y.length, u, river->loaded.steps);
     return told;
 }
@@ -376,19 +479,24 @@ static inline struct yumbaqel_refusal yumbaqel_river_report(
 {
     struct yumbaqel_refusal told;
     yumbaqel_report(&told.number, &told.kind, &told.place, &figures->channel, &figures->storage, &figures->sediment,
-                    river->loaded.segments, YUMBAQEL_LISTS(river), YUMBAQEL_FIGURES(river),
+                    river->loaded.segments, YUMBAQEL_SET(&river->sets[0]), YUMBAQEL_OTHERS(river), YUMBAQEL_FIGURES(river),
                     river->upstream, river->done, segment);
     return told;
 }
 
 /* Makes a copy of a loaded river that shares the lists of its loading, its sheet and its rows, which steps only read, and has state and
    working lists of its own: YUMBAQEL_COPY_WORDS(segments) and YUMBAQEL_WIDE_WORDS(segments) entries. It has no state yet. When the
-   river is loaded anew, its copies are to be made anew. */
+   river is loaded anew, its copies are to be made anew. Where the sheet has flow rows the river loads its sets while it runs, and a copy
+   is given none: it can hold a state, and its starts, steps and reports are refused 13. A river that is to run beside it is lent lists of
+   its own and loaded from the same sheet. */
 static inline void yumbaqel_river_lend_copy(
     struct yumbaqel_river *copy, const struct yumbaqel_river *river, size_t segments, uint32_t *words, uint64_t *wide_words)
 {
     *copy = *river;
     yumbaqel_river_lend_state(copy, segments, words, wide_words);
+    yumbaqel_river_lend_set(copy, 0, words);
+    if (river->loaded.flow_rows != 0)
+        yumbaqel_set_lend(&copy->sets[0], 0, words);
 }
 
 /* Copies the state of a river, which is C, Z and W, U and the count of steps, into the lists of another that is loaded with as many

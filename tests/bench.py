@@ -7,12 +7,14 @@ from __future__ import annotations
 import random
 from collections.abc import Callable, Iterator
 from fractions import Fraction
+from itertools import chain
 from typing import Any, NamedTuple
 
 import exact
 import model
 import sheets
-from model import HIGHEST, MOST_SEGMENTS, MOST_STEPS, ONE_WHOLE, Lists, Refusal, State
+from model import (COLUMNS, HIGHEST, MOST_SEGMENTS, MOST_STEPS, ONE_WHOLE, SET, Lists, Numbers, Pair, Refusal, Segment,
+                   State)
 
 
 class Check(NamedTuple):
@@ -36,6 +38,15 @@ def gains(count: int) -> list[int]:
     return [flow - draft.header.top_flow for flow in model.flows(draft.header, own)]
 
 
+def top_river(draft: sheets.Draft) -> list[Segment]:
+    """The segments with the set of the top flow."""
+    return model.rivers_of(model.read_sheet(sheets.write(draft)))[0]
+
+
+def pairs(old: list[Segment], new: list[Segment]) -> list[Pair]:
+    return [Pair(before.numbers, after.numbers, after.CL, after.CB) for before, after in zip(old, new)]
+
+
 def bench_figures() -> Iterator[Check]:
     """T1 to T11, the listing and the bench lines after T11."""
     yield Check("T1", model.parts(1, 3), 357_913_941)
@@ -44,13 +55,13 @@ def bench_figures() -> Iterator[Check]:
     yield Check("T4", gains(3)[1], -46)
     yield Check("T5", gains(3)[2], -91)
     full = sheets.brook(dt=2, Q=1_000)
-    yield Check("T6, e", model.river_of(model.read_sheet(sheets.write(full)))[0].e, ONE_WHOLE)
+    yield Check("T6, e", top_river(full)[0].numbers.e, ONE_WHOLE)
     yield Check("T6", answer(full), ACCEPTED)
     yield Check("T7", answer(sheets.brook(dt=3, Q=1_000)), (12, ("segment", 1)))
     yield Check("T8", answer(sheets.brook(dt=2, Q=1_001)), (11, ("segment", 1)))
     yield Check("T9", answer(sheets.brook(dt=3, Q=1_001)), (11, ("segment", 1)))
-    river = model.river_of(model.read_sheet(sheets.write(sheets.two_segment_brook())))
-    swept = model.sweep(river, [0, 0], [0, 0], [0, 0], 3_000, 3_000)
+    river = top_river(sheets.two_segment_brook())
+    swept = model.sweep(pairs(river, river), [0, 0], [0, 0], [0, 0], 3_000, 3_000)
     yield Check("T10", swept.C, [1_035, 207])
     yield Check("T11", swept.p[0], 178_956_971)
     yield Check("slope with 46", answer(sheets.slope(46, 2)), ACCEPTED)
@@ -58,17 +69,20 @@ def bench_figures() -> Iterator[Check]:
     yield Check("1,024 segments", answer(sheets.still_reaches(1_024)), ACCEPTED)
     yield Check("1,025 segments", answer(sheets.still_reaches(1_024, 1)), (7, None))
     yield Check("the listing", model.listing(sheets.write(sheets.listing_draft())), sheets.LISTING)
-    yield Check("the longest sheet", model.LONGEST_SHEET, 6_308)
+    yield Check("the longest sheet", model.LONGEST_SHEET, 6_824)
 
 
 class Bench:
-    """The plain river, loaded and started, with one call to come."""
+    """The plain river with flow rows, loaded for rows 1 and 2 and started, with one call to come."""
 
     def __init__(self) -> None:
-        self.sheet = sheets.write(sheets.plain())
-        self.lists = Lists(12)
+        self.sheet = sheets.write(sheets.plain_flows())
+        self.row = 2
+        self.old, self.lists = Lists(11, names=SET), Lists(12)
         self.records: list = [None] * 4
-        self.loaded = model.load(self.sheet, self.lists, self.records)
+        model.load(self.sheet, 1, self.lists, self.records)
+        self.old.fill(self.lists.river(9))
+        self.loaded = model.load(self.sheet, self.row, self.lists, self.records)
         self.segments = self.loaded.segments
         self.state = State.of_length(11, 7)
         self.p, self.y = [0] * 10, [0] * 10
@@ -76,20 +90,20 @@ class Bench:
         model.start(self.lists, self.segments, self.state, self.U)
 
     def load(self) -> Any:
-        return model.load(self.sheet, self.lists, self.records)
+        return model.load(self.sheet, self.row, self.lists, self.records)
 
     def start(self) -> Any:
         return model.start(self.lists, self.segments, self.state, self.U)
 
     def step(self) -> Any:
-        return model.step(self.lists, self.segments, self.state, self.p, self.y, self.U, self.M)
+        return model.step(self.old, self.lists, self.segments, self.state, self.p, self.y, self.U, self.M)
 
     def report(self) -> Any:
         return model.report(self.lists, self.segments, self.state, self.gauge)
 
     def held(self) -> str:
         """Everything that a call may write."""
-        return repr((self.lists.column, self.records, self.state, self.p, self.y))
+        return repr((self.old.column, self.lists.column, self.records, self.state, self.p, self.y))
 
 
 Change = Callable[[Bench], None]
@@ -113,12 +127,25 @@ def column(name: str, at: int, figure: int) -> Change:
     return change
 
 
+def old_column(name: str, at: int, figure: int) -> Change:
+    """Another figure in the set of a step's old side."""
+    def change(bench: Bench) -> None:
+        bench.old.column[name][at] = figure
+    return change
+
+
 def shortened(name: str) -> Change:
     """One list cut to one entry less than the river has segments."""
     def change(bench: Bench) -> None:
         lists = {**bench.lists.column, "C": bench.state.C, "Z": bench.state.Z, "W": bench.state.W,
                  "p": bench.p, "y": bench.y}
         del lists[name][bench.segments - 1:]
+    return change
+
+
+def old_shortened(name: str) -> Change:
+    def change(bench: Bench) -> None:
+        del bench.old.column[name][bench.segments - 1:]
     return change
 
 
@@ -166,10 +193,21 @@ def call_tests() -> Iterator[Check]:
     too_long = sheets.write(sheets.plain()) + b"x"
     for call in ("load", *CALLS):
         yield check("as it is", call, given(), ACCEPTED)
-        for name in model.Segment._fields:
+        for name in COLUMNS:
             yield check(f"{name} too short", call, shortened(name), NOTHING_13)
     yield check("reach records too short", "load", given(records=[None] * 2), NOTHING_13)
     yield check("a bad sheet and a short list", "load", both(shortened("e"), given(sheet=too_long)), (4, None))
+    for row in (0, 1, 3):
+        yield check(f"row {row}", "load", given(row=row), ACCEPTED)
+    for row in (4, sheets.HIGHEST_FIELD):
+        yield check(f"row {row}, past the rows", "load", given(row=row), NOTHING_13)
+        yield check("a bad sheet and a row past the rows", "load", given(row=row, sheet=too_long), (4, None))
+    otr1 = sheets.write(sheets.plain())
+    for row, wanted in ((0, ACCEPTED), (1, NOTHING_13), (sheets.HIGHEST_FIELD, NOTHING_13)):
+        yield check(f"row {row} of OTR1", "load", given(row=row, sheet=otr1), wanted)
+    twelve = given(row=2, sheet=sheets.write(sheets.filling(0, 334)))
+    yield check("12 of a row before 13", "load", twelve, (12, ("segment", 1)))
+    yield from old_set_tests(check)
     for call in CALLS:
         for name in ("C", "Z", "W"):
             yield check(f"{name} too short", call, shortened(name), NOTHING_13)
@@ -208,6 +246,124 @@ def call_tests() -> Iterator[Check]:
         yield check(f"segment {gauge}", "report", given(gauge=gauge), wanted)
 
 
+def old_set_tests(check: Callable[[str, str, Change, Any], Check]) -> Iterator[Check]:
+    """Tests 13 and 14 of the set that a step is lent for its old side."""
+    for name in SET:
+        yield check(f"old {name} too short", "step", old_shortened(name), NOTHING_13)
+        for call in ("start", "report"):
+            yield check(f"old {name} too short", call, old_shortened(name), ACCEPTED)
+        over = old_column(name, 3, ONE_WHOLE + 1)
+        yield check(f"old {name} over one whole", "step", over, (14, ("segment", 4)))
+        for lower, higher, segment in ((2, 5, 3), (5, 2, 3), (4, 4, 5)):
+            change = both(old_column(name, lower, ONE_WHOLE + 1), column("Kd", higher, 1_001))
+            yield check(f"old {name} at {lower}, Kd at {higher}", "step", change, (14, ("segment", segment)))
+            change = both(old_column("h", lower, ONE_WHOLE + 1), column(name, higher, ONE_WHOLE + 1))
+            yield check(f"old h at {lower}, {name} at {higher}", "step", change, (14, ("segment", segment)))
+        yield check(f"old {name} past the river", "step", old_column(name, 9, sheets.HIGHEST_FIELD), ACCEPTED)
+    yield check("the old set's last g", "step", old_column("g", 8, 1), (14, ("segment", 9)))
+    yield check("13 of the old set before 14", "step", both(old_shortened("e"), column("Kd", 0, 5_000)), NOTHING_13)
+    yield check("13 before 14 of the old set", "step", both(shortened("e"), old_column("h", 0, ONE_WHOLE + 1)),
+                NOTHING_13)
+    yield check("14 of the old set before U'", "step", both(given(U=HIGHEST + 1), old_column("m", 8, ONE_WHOLE + 1)),
+                (14, ("segment", 9)))
+    yield check("14 of the old set before 15", "step", both(given(M=0), old_column("m", 8, ONE_WHOLE + 1)),
+                (14, ("segment", 9)))
+
+
+def flow_row_tests() -> Iterator[Check]:
+    """16 with its places, tests 10 to 12 with theirs, and what a sheet without its fourth section gives."""
+    draft, top = sheets.plain_flows(), 20_000
+    M = draft.header.M
+    for rows, wanted in (
+            ([(0, top)], 1), ([(1, top), (0, top)], 2), ([(M + 1, top)], 1), ([(1, top), (M + 1, top)], 2),
+            ([(2, top), (1, top)], 2), ([(1, top), (1, top)], 2), ([(1, top), (3, top), (2, top)], 3),
+            ([(3, top), (1, top), (2, top)], 2), ([(M, top), (M, top)], 2), ([(1, model.HIGHEST_FLOW + 1)], 1),
+            ([(1, top), (2, top), (3, model.HIGHEST_FLOW + 1), (3, top)], 3),
+            ([(1, top), (M + 1, top), (0, top)], 2)):
+        yield Check(f"16: {rows}", answer(draft.with_flows(*rows)), (16, ("row", wanted)))
+    for count, wanted in ((0, (3, None)), (1, ACCEPTED), (64, ACCEPTED), (65, (3, None))):
+        rows = [(start, top) for start in range(1, count + 1)]
+        yield Check(f"{count} flow rows", answer(draft.with_header(M=65).with_flows(*rows)), wanted)
+    for fault in sheets.flow_faults():
+        yield Check(fault.name, answer(fault.draft), (fault.number, ("segment", fault.segment)))
+    for case in (*sheets.other_marks(draft), *sheets.flow_rivers(), *sheets.disordered_flows(draft)):
+        refusal = model.answer(case.sheet)
+        yield Check(case.name, refusal.number if refusal else sheets.ACCEPTED, case.number)
+        if case.twin:
+            yield Check(f"{case.name}: its twin", model.listing(case.sheet), model.listing(case.twin))
+
+
+def flow_in_force_tests() -> Iterator[Check]:
+    """The flow at a step, of sheets that load and of any bytes."""
+    def check(name: str, sheet: bytes, step: int, wanted: int) -> Check:
+        return Check(f"flow in force: {name}, step {step}", model.flow_in_force(sheet, step), wanted)
+
+    draft = sheets.plain().with_header(M=9).with_flows((2, 10), (5, 20), (9, 30))
+    sheet = sheets.write(draft)
+    for step, wanted in ((0, 0), (1, 0), (2, 1), (4, 1), (5, 2), (8, 2), (9, 3), (10, 3), (2 ** 32 - 1, 3)):
+        yield check("three rows", sheet, step, wanted)
+        yield check("OTR1", sheets.write(sheets.plain()), step, 0)
+        yield check("marked OTR1", model.MARK + sheet[4:], step, 0)
+        yield check("marked OTR3", sheets.UNKNOWN_MARK + sheet[4:], step, 0)
+        yield check("bytes added", sheet + b"\xff" * 9, step, wanted)
+    one, three = (sheets.offset(draft, f"flow row {row} start") for row in (1, 3))
+    count, gauges = (sheets.offset(draft, f"count of {records}") for records in ("flow rows", "gauges"))
+    for cut, steps in ((count, (0, 0, 0)), (three, (3, 3, 3)), (three + 1, (0, 2, 3)), (one, (3, 3, 3)),
+                       (4, (0, 0, 0))):
+        for step, wanted in zip((0, 5, 9), steps):      # a start past the end is 0, and so is a count
+            yield check(f"cut after {cut} bytes", sheet[:cut], step, wanted)
+    disordered = sheets.write(draft.with_flows((7, 10), (3, 20), (8, 30), (4, 40)))
+    for step, wanted in ((2, 0), (3, 2), (4, 4), (7, 4), (9, 4)):
+        yield check("rows out of order", disordered, step, wanted)
+    yield check("a count far past the end", sheets.put(sheet, count, 2 ** 32 - 1), 0, 2 ** 32 - 1)
+    yield check("one row less than there are", sheets.put(sheet, count, 2), 9, 2)
+    yield check("gauges far past the end", sheets.put(sheet, gauges, 2 ** 32 - 1), 9, 0)
+    yield check("no bytes", b"", 5, 0)
+    yield check("the mark alone", model.FLOW_MARK, 5, 0)
+
+
+def flow_bench() -> Iterator[Check]:
+    """The step of the proved table FlowBench (crates/model/specs), and its flows and pairs."""
+    old = [Numbers(100_000_000, 50_000_000, 30_000_000, 70_000_000, 200_000_000, 10_000_000, 20_000_000, 300_000_000,
+                   40_000_000, 60_000_000),
+           Numbers(90_000_000, 0, 20_000_000, 80_000_000, 100_000_000, 15_000_000, 30_000_000, 200_000_000,
+                   50_000_000, 70_000_000)]
+    new = [Numbers(160_000_000, 20_000_000, 10_000_000, 30_000_000, 150_000_000, 5_000_000, 60_000_000, 100_000_000,
+                   90_000_000, 20_000_000),
+           Numbers(120_000_000, 0, 25_000_000, 40_000_000, 180_000_000, 8_000_000, 10_000_000, 150_000_000,
+                   20_000_000, 30_000_000)]
+    river = [Pair(*numbers, CL, CB) for *numbers, CL, CB in zip(old, new, (5_000_000, 100_000), (4_000_000, 250_000))]
+    swept = model.sweep(river, [1_000_000, 2_000_000], [3_000_000, 500_000], [700_000, 900_000], 2_500_000, 1_500_000)
+    for name, found, wanted in zip(("C'", "Z'", "W'", "p", "y"), swept, (
+            [1_454_210, 1_568_422], [2_459_965, 737_443], [840_935, 1_161_708], [16_346_061, 0],
+            [1_430_333, 1_568_422])):
+        yield Check(f"flow bench: {name}", found, wanted)
+    draft = sheets.brook(1, 0, segments=2).with_header(M=4).with_flows((1, 400), (3, 1_000))
+    rivers = model.rivers_of(model.read_sheet(sheets.write(draft)))
+    yield Check("flow bench: e", [each[0].numbers.e for each in rivers], [268_435_456, 375_809_638, 536_870_912])
+
+
+def pair_tests() -> Iterator[Check]:
+    """A step between two sets that differ in every number lies within 6 of the exact one."""
+    rng = random.Random("pairs")
+    farthest = Fraction(0)
+    for _ in range(60):
+        segments = rng.randint(1, 5)
+        old, new = (top_river(sheets.good_river(rng, segments, 1)) for _ in range(2))
+        course = exact.Course(model.read_sheet(sheets.write(sheets.plain_flows())))
+        course.rivers, course.starts = [old, new], [1]
+        U, new_U = sheets.concentration(rng), sheets.concentration(rng)
+        river = exact.ExactRiver(course, U)
+        river.step(new_U)
+        figures = [part.start for part in old]
+        swept = model.sweep(pairs(old, new), figures, figures, figures, U, new_U)
+        found = [exact.distance(figure, around) for at in range(segments)
+                 for figure, around in zip((swept.C[at], swept.Z[at], swept.W[at]), river.figures(at))]
+        farthest = max(farthest, *found)
+        yield Check("a pair of sets: within 6", max(found) <= exact.ALLOWED, True)
+    yield Check("a pair of sets: not exact", farthest > 0, True)
+
+
 def upstream_tests() -> Iterator[Check]:
     """U at a step, and the tests of the call that finds it."""
     def check(name: str, starts: list[int], concentrations: list[int], M: int, step: int,
@@ -234,11 +390,17 @@ def upstream_tests() -> Iterator[Check]:
 def accepted_calls() -> Iterator[Check]:
     """What accepted calls give and write, and what they leave."""
     bench = Bench()
-    draft = sheets.plain()
-    rows_begin = sheets.offset(draft, "row 1 start")
-    gauges_begin = sheets.offset(draft, "gauge 1")
-    yield Check("load: result", bench.loaded, (6, 2, 9, rows_begin, 3, gauges_begin, 3))
+    draft = sheets.plain_flows()
+    begin = [sheets.offset(draft, name) for name in ("row 1 start", "gauge 1", "flow row 1 start")]
+    yield Check("load: result", bench.loaded, (6, 2, 9, begin[0], 3, begin[1], 3, begin[2], 3))
+    otr1 = model.load(sheets.write(sheets.plain()), 0, Lists(9), [None] * 3)
+    yield Check("load: result of OTR1", otr1, (6, 2, 9, begin[0], 3, begin[1], 3, 0, 0))
     yield Check("load: reach records", bench.records, [*draft.reaches, None])
+    for row, flow in ((0, 20_000), (1, 25_000), (2, 8_000), (3, 60_000)):
+        lists, alone = Lists(9), Lists(9)
+        model.load(bench.sheet, row, lists, [None] * 3)
+        model.load(sheets.write(sheets.plain().with_header(top_flow=flow)), 0, alone, [None] * 3)
+        yield Check(f"load: the set of flow {row}", lists.column, alone.column)
     yield Check("load: entries past the river", {each[9] for each in bench.lists.column.values()}, {0})
     yield Check("start: entries past the river", bench.state.C[9:], [7, 7])
     yield Check("start: figures", bench.state.W[:9], [1_000] * 3 + [3_000] * 3 + [1_000] * 3)
@@ -253,19 +415,25 @@ def accepted_calls() -> Iterator[Check]:
 
 def bracket_tests() -> Iterator[Check]:
     """The brackets hold the fractions and are narrow, on small rivers."""
-    for case in sheets.small_rivers(random.Random("brackets"), 12):
+    rng = random.Random("brackets")
+    for case in chain(sheets.small_rivers(rng, 12), sheets.small_rivers(rng, 12, sheets.draw_flow_river)):
         solved, bracketed = (exact.SheetsRiver(case.sheet, kind) for kind in ("fractions", "brackets"))
         for river in (solved, bracketed):
             river.step_to(river.M)
+        segments = len(solved.course.river)
         found = [around.low <= figure.low <= around.high <= around.low + Fraction(1, 2 ** 64)
-                 for at in range(len(solved.river))
+                 for at in range(segments)
                  for figure, around in zip(solved.exact.figures(at), bracketed.exact.figures(at))]
-        yield Check(f"brackets: {case.name}", all(found) and len(found) == 3 * len(solved.river), True)
+        yield Check(f"brackets: {case.name}", all(found) and len(found) == 3 * segments, True)
 
 
 def checks() -> Iterator[Check]:
     yield from bench_figures()
     yield from accepted_calls()
     yield from call_tests()
+    yield from flow_row_tests()
+    yield from flow_in_force_tests()
     yield from upstream_tests()
+    yield from flow_bench()
+    yield from pair_tests()
     yield from bracket_tests()

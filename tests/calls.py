@@ -13,11 +13,12 @@ from typing import NamedTuple, Optional
 import exact
 import model
 import sheets
-from library import COLUMNS, FIGURES, KINDS, WORKING, Buffer, Library, Size, Slice, U32, flat
-from model import HIGHEST, HIGHEST_KD, MOST_SEGMENTS, MOST_STEPS, ONE_WHOLE, Reach, Row
+from library import FIGURES, KINDS, OLD, WORKING, Buffer, Library, Size, Slice, U32, flat
+from model import (COLUMNS, HIGHEST, HIGHEST_KD, MOST_SEGMENTS, MOST_STEPS, ONE_WHOLE, SET, Reach, gauge_count_at,
+                   row_count_at)
 from sheets import HIGHEST_FIELD
 
-LISTS = (*COLUMNS, *FIGURES, *WORKING)
+LISTS = (*OLD, *COLUMNS, *FIGURES, *WORKING)
 ANSWER = ("number", "kind", "place")
 ACCEPTED = (0, None)
 
@@ -132,8 +133,9 @@ class Caller:
         for name, length in zip(COLUMNS, lengths):
             self.shelf.add(name, [draw_word(self.rng) for _ in range(length)])
 
-    def load(self, sheet: bytes, lengths: list[int], records: int, what: str) -> Optional[model.Loaded]:
-        """A loading of lists of these lengths."""
+    def load(self, sheet: bytes, lengths: list[int], records: int, what: str, row: int = 0
+             ) -> Optional[model.Loaded]:
+        """A loading of a flow row's set into lists of these lengths."""
         shelf = self.shelf
         shelf.add("sheet", list(sheet), 1)
         shelf.add("reaches", [draw_word(self.rng) for _ in range(records * len(Reach._fields))])
@@ -145,14 +147,14 @@ class Caller:
         table = [Reach(*words[at:at + 16]) for at in range(0, len(words), 16)]
         loaded, refusal = None, None
         try:
-            loaded = model.load(sheet, lists, table)
+            loaded = model.load(sheet, row, lists, table)
             shelf.content["reaches"] = flat(table)
             shelf.content["loaded"] = list(loaded)
         except model.Refusal as found:
             refusal = found
-        self.library.call("load", *self.references(), shelf.buffers["loaded"], shelf.whole("sheet"),
+        self.library.call("load", *self.references(), shelf.buffers["loaded"], shelf.whole("sheet"), U32(row),
                           Slice(shelf.buffers["reaches"], records), *(shelf.whole(name) for name in COLUMNS))
-        self.settle("load", refusal, what)
+        self.settle("load", refusal, f"{what}, flow row {row}")
         return loaded
 
     def rows(self, starts: int, concentrations: int) -> bool:
@@ -184,6 +186,16 @@ class Caller:
         self.tally.take("gauge", ACCEPTED)
         return found
 
+    def flow(self, j: int) -> int:
+        """The number of the flow in force at a step of the sheet on the shelf."""
+        found = self.library.call("flow", self.shelf.whole("sheet"), U32(j))
+        wanted = model.flow_in_force(bytes(self.shelf.content["sheet"]), j)
+        if found != wanted:
+            raise Difference(f"the flow in force at step {j} is {found}, not {wanted}")
+        self.shelf.compare(f"flow at step {j}")
+        self.tally.take("flow", ACCEPTED)
+        return found
+
     def header_field(self, name: str) -> int:
         """dt or dx of the sheet on the shelf."""
         found = self.library.call(name, self.shelf.whole("sheet"))
@@ -211,17 +223,6 @@ class Caller:
         return shelf.content["u"][0] if accepted else None
 
 
-def row_count_at(sheet: bytes) -> int:
-    """Where the count of rows stands on any bytes."""
-    front = len(model.MARK) + model.FIELD * len(model.Header._fields)
-    return front + model.FIELD * (1 + len(Reach._fields) * model.field_at(sheet, front))
-
-
-def gauge_count_at(sheet: bytes) -> int:
-    begin = row_count_at(sheet)
-    return begin + model.FIELD * (1 + len(Row._fields) * model.field_at(sheet, begin))
-
-
 # Runs: one accepted loading, then starts, steps and reports, refused ones included
 
 
@@ -238,33 +239,75 @@ class Run(Caller):
 
     def __init__(self, library: Library, rng: random.Random, tally: Tally, sheet: bytes, kind: str) -> None:
         super().__init__(library, rng, tally)
-        found = model.read_sheet(sheet)
-        self.river = model.river_of(found)
-        self.n = len(self.river)
+        self.found = model.read_sheet(sheet)
+        self.sheet = sheet
+        self.course = exact.Course(self.found)
+        self.n = len(self.course.river)
         self.kind = kind
         self.exact: Optional[exact.ExactRiver | exact.BracketedRiver] = None
         self.moves = 0                  # steps accepted since the latest accepted start
-        lengths = [self.n + rng.randrange(3) for _ in COLUMNS]
-        loaded = self.load(sheet, lengths, len(found.reaches) + rng.randrange(3), "a good river")
-        if loaded is None:
-            raise Difference("a good river is refused")
-        self.steps = loaded.M
+        self.sets: dict[int, dict[str, list[int]]] = {}         # as loaded, by the flow's number
+        self.columns_of = self.load_set(rng.randint(0, len(self.found.flow_rows)))
+        self.old_of = None
+        self.steps = self.found.header.M
         for name in FIGURES:
             self.shelf.add(name, [draw_word(rng) for _ in range(self.n + rng.randrange(3))])
         for name in WORKING:
             self.shelf.add(name, [rng.getrandbits(64) for _ in range(self.n + rng.randrange(3))], 8)
         self.shelf.add("upstream", [draw_word(rng)])
         self.shelf.add("done", [draw_word(rng)])
+        self.lend_pair(0, 0)
+
+    # sets: as the library loads them
+
+    def load_set(self, row: int) -> int:
+        """A loading of that flow's set, which is kept; the fourteen lists on the shelf hold it afterwards."""
+        lengths = [self.n + self.rng.randrange(3) for _ in COLUMNS]
+        records = len(self.found.reaches) + self.rng.randrange(3)
+        if self.load(self.sheet, lengths, records, "a good river", row) is None:
+            raise Difference(f"a good river is refused for flow row {row}")
+        self.sets[row] = {name: self.shelf.content[name][:self.n] for name in COLUMNS}
+        return row
+
+    def lend_columns_of(self, row: int) -> None:
+        """The fourteen lists hold that flow's set."""
+        if row not in self.sets:
+            self.load_set(row)
+        elif row != self.columns_of:
+            for name in COLUMNS:
+                self.lend(name, self.sets[row][name])
+        self.columns_of = row
+
+    def lend_pair(self, old: int, new: int) -> None:
+        """The ten lists of the old side hold one flow's set, the fourteen another's."""
+        self.lend_columns_of(old)
+        if old != self.old_of:
+            for name, old_name in zip(SET, OLD):
+                self.lend(old_name, self.sets[old][name])
+            self.old_of = old
+        self.lend_columns_of(new)
+
+    def lend(self, name: str, content: list[int]) -> None:
+        """A list with this content, and up to two entries more."""
+        self.shelf.add(name, [*content, *(draw_word(self.rng) for _ in range(self.rng.randrange(3)))])
+
+    def lend_next_pair(self) -> None:
+        """The pair that the sheet's rows give for the step that comes next."""
+        self.lend_pair(*(self.course.flow(self.moves + more) for more in (0, 1)))
+
+    def any_flow(self) -> int:
+        return self.rng.randint(0, len(self.found.flow_rows))
 
     # the model's call on what is on the shelf, at the lengths told
 
-    def lent(self, told: dict[str, int]) -> tuple[model.Lists, model.State, list[int], list[int]]:
+    def lent(self, told: dict[str, int]) -> tuple[model.Lists, model.Lists, model.State, list[int], list[int]]:
         content = {name: self.shelf.content[name][:told.get(name)] for name in LISTS}
-        lists = model.Lists(0)
+        old, lists = model.Lists(0), model.Lists(0)
+        old.column = {name: content[old_name] for name, old_name in zip(SET, OLD)}
         lists.column = {name: content[name] for name in COLUMNS}
         state = model.State(content["C"], content["Z"], content["W"], self.shelf.content["upstream"][0],
                             self.shelf.content["done"][0])
-        return lists, state, content["p"], content["y"]
+        return old, lists, state, content["p"], content["y"]
 
     def keep(self, state: model.State, p: list[int], y: list[int]) -> None:
         """What an accepted call leaves on the shelf."""
@@ -277,7 +320,7 @@ class Run(Caller):
         return [self.shelf.part(name, told.get(name, self.shelf.buffers[name].length)) for name in names]
 
     def start(self, n: int, u: int, told: dict[str, int]) -> bool:
-        lists, state, p, y = self.lent(told)
+        _, lists, state, p, y = self.lent(told)
         self.dirty()
         refusal = None
         try:
@@ -290,21 +333,21 @@ class Run(Caller):
         return self.settle("start", refusal, f"n {n}, U {u}, told {told}")
 
     def step(self, n: int, u: int, steps: int, told: dict[str, int]) -> bool:
-        lists, state, p, y = self.lent(told)
+        old, lists, state, p, y = self.lent(told)
         self.dirty()
         refusal = None
         try:
-            model.step(lists, n, state, p, y, u, steps)
+            model.step(old, lists, n, state, p, y, u, steps)
             self.keep(state, p, y)
         except model.Refusal as found:
             refusal = found
-        self.library.call("step", *self.references(), U32(n), *self.slices((*COLUMNS, *FIGURES), told),
+        self.library.call("step", *self.references(), U32(n), *self.slices((*OLD, *COLUMNS, *FIGURES), told),
                           self.shelf.buffers["upstream"], self.shelf.buffers["done"],
                           *self.slices(WORKING, told), U32(u), U32(steps))
         return self.settle("step", refusal, f"n {n}, U' {u}, M {steps}, told {told}")
 
     def report(self, n: int, segment: int, told: dict[str, int]) -> bool:
-        lists, state, _, _ = self.lent(told)
+        _, lists, state, _, _ = self.lent(told)
         self.dirty("c", "z", "kdw")
         refusal = None
         try:
@@ -320,12 +363,24 @@ class Run(Caller):
 
     # the exact river
 
+    def begin(self, u: int) -> None:
+        """A start was accepted."""
+        self.exact = exact.exact_river(self.kind, self.course, u)
+        self.moves = 0
+        self.hold()
+
+    def move(self, u: int) -> None:
+        """A step was accepted, lent its pair by the sheet."""
+        self.exact.step(u)
+        self.moves += 1
+        self.hold()
+
     def hold(self) -> None:
         """Every segment's figures are within 6 x n of the exact river's, Kd x W within 6 x n x Kd."""
         content = self.shelf.content
         if self.exact is None or content["done"][0] != self.moves:
             raise Difference(f"{content['done'][0]} steps counted, {self.moves} made")
-        for at, part in enumerate(self.river):
+        for at, part in enumerate(self.course.river):
             figures = (content["C"][at], content["Z"][at], part.Kd * content["W"][at])
             far = max(exact.distances(figures, part.Kd, self.exact.figures(at)))
             if far > exact.ALLOWED * self.moves:
@@ -369,30 +424,47 @@ class Run(Caller):
                            HIGHEST_FIELD, rng.randint(0, HIGHEST_FIELD)))
 
     def some_changes(self) -> list[Change]:
-        """Nearly always none; else a figure at its limit or above it, in the lists or in the state."""
+        """Nearly always none; else a figure at its limit or above it, in the lists of a set or in the state."""
         rng = self.rng
         if rng.random() < 0.8:
             return []
         found = []
         for _ in range(rng.choice((1, 1, 2))):
             at = rng.choice((0, self.n - 1, rng.randrange(self.n)))
-            part = self.river[at]
-            room = {**dict.fromkeys(("e", "g", "l", "a", "k", "s"), ONE_WHOLE - part.T),
-                    **dict.fromkeys(("b", "ks", "m"), ONE_WHOLE - part.V), "h": ONE_WHOLE - part.h}
-            name = rng.choice((*COLUMNS, *FIGURES, *("upstream", "done") * 3))
-            if name in room:
-                top = getattr(part, name) + room[name]
+            name = rng.choice((*OLD, *COLUMNS, *FIGURES, *("upstream", "done") * 3))
+            if name in OLD or name in SET:
+                lent = OLD if name in OLD else SET
+                part = model.Numbers(*(self.shelf.content[each][at] for each in lent))
+                number = SET[lent.index(name)]
+                total = {"b": part.V, "ks": part.V, "m": part.V, "h": part.h}.get(number, part.T)
+                top = getattr(part, number) + ONE_WHOLE - total
             else:
                 top = {"Kd": HIGHEST_KD, "done": MOST_STEPS}.get(name, HIGHEST)
             figure = rng.choice((top, top + 1, top + 1, HIGHEST_FIELD, rng.randint(0, top)))
             found.append(Change(name, 0 if name in ("upstream", "done") else at, figure))
         return found
 
+    def other_set(self) -> list[Change]:
+        """Now and then the set of another river as the old side's: a pair that differs in every number."""
+        if self.rng.random() < 0.85:
+            return []
+        draft = sheets.good_river(self.rng, self.n, 1)
+        river = model.rivers_of(model.read_sheet(sheets.write(draft)))[0]
+        return [Change(name, at, figure) for at, part in enumerate(river) for name, figure in zip(OLD, part.numbers)]
+
     def one_call(self) -> None:
         """A start, step or report; one that was accepted as loaded moves the exact river."""
         rng, shelf = self.rng, self.shelf
         name = rng.choices(("start", "step", "report"), (1, 6, 3))[0]
-        n, changes = self.some_n(), self.some_changes()
+        n, own = self.some_n(), True
+        if name != "step":
+            self.lend_columns_of(self.any_flow())       # any of the sheet's sets serves
+        elif rng.random() < 0.9:
+            self.lend_next_pair()
+        else:
+            self.lend_pair(self.any_flow(), self.any_flow())
+            own = False
+        changes = self.some_changes() + (self.other_set() if name == "step" else [])
         before = {each: list(shelf.content[each]) for each in (*LISTS, "upstream", "done")}
         for change in changes:
             content = list(shelf.content[change.name])
@@ -407,23 +479,18 @@ class Run(Caller):
         else:
             told = self.some_told((*COLUMNS, *FIGURES))
             accepted = self.report(n, self.some_segment(n), told)
-        if changes or n != self.n:
+        if changes or n != self.n or not own:
             for each, content in before.items():
                 shelf.put(each, content)        # not a call of this run: an accepted one was lent other lists
-        elif accepted and name != "report":
-            if name == "start":
-                self.exact = exact.exact_river(self.kind, self.river, u)
-                self.moves = 0
-            else:
-                self.exact.step(u)
-                self.moves += 1
-            self.hold()
+        elif accepted and name == "start":
+            self.begin(u)
+        elif accepted and name == "step":
+            self.move(u)
 
     def go(self, calls: int) -> None:
         """The first start, with any state before it; then that many calls."""
         if not self.start(self.n, u := sheets.concentration(self.rng), {}):
             raise Difference("a start of a good river is refused")
-        self.exact = exact.exact_river(self.kind, self.river, u)
-        self.hold()
+        self.begin(u)
         for _ in range(calls):
             self.one_call()

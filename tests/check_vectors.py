@@ -30,8 +30,8 @@ def vectors(folder: Path) -> list[Vector]:
     for kind in ("*.otr", "[0-9]*.txt"):
         if {path.stem for path in folder.glob(kind)} != set(answers):
             raise ProgramFault(f"{folder}: {kind} and answers.txt do not name the same vectors")
-    return [Vector(name, (folder / f"{name}.otr").read_bytes(), (folder / f"{name}.txt").read_bytes(), answer)
-            for name, answer in sorted(answers.items())]
+    return [Vector(f"{folder.name}/{name}", (folder / f"{name}.otr").read_bytes(),
+                   (folder / f"{name}.txt").read_bytes(), answer) for name, answer in sorted(answers.items())]
 
 
 def model_answer(sheet: bytes) -> str:

@@ -8,7 +8,7 @@ No figure is rounded to ng/L here: every number is a 64-bit float.  DOCUMENT is 
 same with half-step numbers in whole parts of 2^30.  REPORT is that of OTIS, USGS WRIR 98-4018: the boundary
 concentration stands on the face above segment 1 (equations B10 to B14), area and dispersion are averaged singly
 at a face (equation B2), flow is taken at a segment's middle, and a boundary value counts from the step that
-begins at its time.
+begins at its time.  A flow row, which the report does not have, holds from the new side of its step in all of them.
 """
 from __future__ import annotations
 
@@ -65,7 +65,7 @@ def faces(own: list[Reach], scheme: Scheme) -> list[float]:
 
 
 class Numbers(NamedTuple):
-    """What a step needs of one segment, in wholes: half-step numbers, their sums, 2lCL and 2mCB."""
+    """What a step needs of one segment, in wholes: half-step numbers, their sums, lCL and mCB."""
 
     e: float
     g: float
@@ -97,17 +97,15 @@ def segment_numbers(header: Header, reach: Reach, Q: float, above: float, below:
     if first and scheme.boundary_on_face:
         e = space * (Q * dx + 2 * above)                    # C14 and C24
         leaving = space * (Q * dx / 2 + 2 * above + below)  # C12 and C22
-    return Numbers(e, g, a, b, s, h, leaving + l + a + k + s, b + ks + m, 2 * l * reach.CL, 2 * m * reach.CB)
+    return Numbers(e, g, a, b, s, h, leaving + l + a + k + s, b + ks + m, l * reach.CL, m * reach.CB)
 
 
-class FloatRiver:
-    """A start, then steps; C, Z and W hold one float for each segment."""
+class Course:
+    """One flow's numbers, and what the elimination makes of them on the new side of a step."""
 
-    def __init__(self, found: Sheet, scheme: Scheme) -> None:
-        self.rows, self.late = found.rows, scheme.late_rows
-        own = model.reach_of_segments(found.reaches)
-        Q, AD, last = float_flows(found.header, own, scheme), faces(own, scheme), len(own) - 1
-        self.river = [segment_numbers(found.header, reach, Q[at], AD[at], AD[at + 1], at == 0, at == last, scheme)
+    def __init__(self, header: Header, own: list[Reach], scheme: Scheme) -> None:
+        Q, AD, last = float_flows(header, own, scheme), faces(own, scheme), len(own) - 1
+        self.river = [segment_numbers(header, reach, Q[at], AD[at], AD[at + 1], at == 0, at == last, scheme)
                       for at, reach in enumerate(own)]
         self.p: list[float] = []
         self.H: list[float] = []
@@ -116,6 +114,15 @@ class FloatRiver:
             self.H.append(1 + T - a * b / (1 + V) - s * h / (1 + h) - e * above)
             above = g / self.H[-1]
             self.p.append(above)
+
+
+class FloatRiver:
+    """A start, then steps; C, Z and W hold one float for each segment."""
+
+    def __init__(self, found: Sheet, scheme: Scheme) -> None:
+        self.rows, self.flow_rows, self.late = found.rows, found.flow_rows, scheme.late_rows
+        own = model.reach_of_segments(found.reaches)
+        self.courses = [Course(header, own, scheme) for header in model.headers(found)]
         self.Kd = [reach.Kd for reach in own]
         self.C = [float(reach.start) for reach in own]
         self.Z, self.W = list(self.C), list(self.C)
@@ -125,25 +132,31 @@ class FloatRiver:
         """The boundary concentration at a step."""
         return float([row.concentration for row in self.rows if row.start <= max(0, step - self.late)][-1])
 
+    def course(self, step: int) -> Course:
+        """The flow in force at a step."""
+        return self.courses[sum(row.start <= step for row in self.flow_rows)]
+
     def step(self) -> None:
-        """Thomas algorithm, storage and sediment eliminated."""
+        """Thomas algorithm, storage and sediment eliminated; old numbers on the right side, new ones on the left."""
         new_U = self.upstream(self.count + 1)
+        old, course = self.course(self.count), self.course(self.count + 1)
         y, stores, sediments = [], [], []
         above, swept = self.U, new_U
-        for (e, g, a, b, s, h, T, V, inflow, background), H, C, Z, W, below in zip(
-                self.river, self.H, self.C, self.Z, self.W, [*self.C[1:], 0.0]):
-            P = ((1 - V) * Z + b * C + background) / (1 + V)
-            N = ((1 - h) * W + h * C) / (1 + h)
-            swept = ((1 - T) * C + e * (above + swept) + g * below + a * (Z + P) + s * (W + N) + inflow) / H
+        for was, now, H, C, Z, W, below in zip(old.river, course.river, course.H, self.C, self.Z, self.W,
+                                               [*self.C[1:], 0.0]):
+            P = ((1 - was.V) * Z + was.b * C + was.background + now.background) / (1 + now.V)
+            N = ((1 - was.h) * W + was.h * C) / (1 + now.h)
+            swept = ((1 - was.T) * C + was.e * above + now.e * swept + was.g * below + was.a * Z + now.a * P
+                     + was.s * W + now.s * N + was.inflow + now.inflow) / H
             above = C
             y.append(swept)
             stores.append(P)
             sediments.append(N)
         for at in range(len(y) - 2, -1, -1):
-            y[at] += self.p[at] * y[at + 1]
+            y[at] += course.p[at] * y[at + 1]
         self.C = y
-        self.Z = [P + part.b * C / (1 + part.V) for P, part, C in zip(stores, self.river, y)]
-        self.W = [N + part.h * C / (1 + part.h) for N, part, C in zip(sediments, self.river, y)]
+        self.Z = [P + part.b * C / (1 + part.V) for P, part, C in zip(stores, course.river, y)]
+        self.W = [N + part.h * C / (1 + part.h) for N, part, C in zip(sediments, course.river, y)]
         self.U, self.count = new_U, self.count + 1
 
     def figures(self, segment: int) -> tuple[float, float, float]:

@@ -2,7 +2,7 @@
  * What a header says and does, on standard output: every constant, macro, enum number and field (offset and size), and then every helper
  * on rivers, by the commands on standard input. test_header.py compiles it against the header under test.
  *
- *     header SHEET OTHER_SHEET < COMMANDS
+ *     header SHEET OTHER_SHEET THIRD_SHEET < COMMANDS
  *
  * After each command both rivers are printed whole, by the names of their fields. The library is behind a recorder, which prints the
  * lengths and figures that each call was handed, or, with `marks`, answers by itself. With NAMES defined the rivers are left out.
@@ -21,28 +21,32 @@
 
 #define CONSTANTS(X) \
     X(YUMBAQEL_VERSION) X(YUMBAQEL_SCALE) X(YUMBAQEL_HIGHEST) X(YUMBAQEL_MOST_SEGMENTS) X(YUMBAQEL_MOST_STEPS) \
-    X(YUMBAQEL_MOST_REACHES) X(YUMBAQEL_MOST_ROWS) X(YUMBAQEL_MOST_GAUGES) X(YUMBAQEL_LONGEST_SHEET) X(YUMBAQEL_STACK)
+    X(YUMBAQEL_MOST_REACHES) X(YUMBAQEL_MOST_ROWS) X(YUMBAQEL_MOST_GAUGES) X(YUMBAQEL_MOST_FLOW_ROWS) X(YUMBAQEL_NO_FLOW) \
+    X(YUMBAQEL_LONGEST_SHEET) X(YUMBAQEL_STACK)
 #define ENUMS(X) \
     X(YUMBAQEL_ACCEPTED) X(YUMBAQEL_MARK) X(YUMBAQEL_SHORT_SHEET) X(YUMBAQEL_COUNT) X(YUMBAQEL_LONG_SHEET) X(YUMBAQEL_HEADER) \
     X(YUMBAQEL_REACH_FIELD) X(YUMBAQEL_SEGMENTS) X(YUMBAQEL_BOUNDARY_ROW) X(YUMBAQEL_GAUGE) X(YUMBAQEL_FLOW) X(YUMBAQEL_FACE) \
-    X(YUMBAQEL_SUM) X(YUMBAQEL_SHORT_LIST) X(YUMBAQEL_FIGURE) X(YUMBAQEL_STEPS_DONE) \
+    X(YUMBAQEL_SUM) X(YUMBAQEL_SHORT_LIST) X(YUMBAQEL_FIGURE) X(YUMBAQEL_STEPS_DONE) X(YUMBAQEL_FLOW_ROW) \
     X(YUMBAQEL_NOTHING) X(YUMBAQEL_REACH) X(YUMBAQEL_SEGMENT) X(YUMBAQEL_ROW)
-#define MACROS(X) X(YUMBAQEL_WORDS) X(YUMBAQEL_COPY_WORDS) X(YUMBAQEL_WIDE_WORDS) X(YUMBAQEL_ROW_WORDS)
-#define CHECKS(X) X(yumbaqel_reach_has_64_bytes) X(yumbaqel_loaded_has_28_bytes)
+#define MACROS(X) X(YUMBAQEL_WORDS) X(YUMBAQEL_SET_WORDS) X(YUMBAQEL_COPY_WORDS) X(YUMBAQEL_WIDE_WORDS) X(YUMBAQEL_ROW_WORDS)
+#define CHECKS(X) X(yumbaqel_reach_has_64_bytes) X(yumbaqel_loaded_has_36_bytes)
 #define STRUCTS(X) \
-    X(yumbaqel_reach) X(yumbaqel_loaded) X(yumbaqel_list) X(yumbaqel_wide_list) X(yumbaqel_river) X(yumbaqel_refusal) X(yumbaqel_figures)
+    X(yumbaqel_reach) X(yumbaqel_loaded) X(yumbaqel_list) X(yumbaqel_wide_list) X(yumbaqel_set) X(yumbaqel_river) X(yumbaqel_refusal) \
+    X(yumbaqel_figures)
 
+#define SET_LISTS(X, of) X(of, e) X(of, g) X(of, l) X(of, a) X(of, b) X(of, k) X(of, ks) X(of, h) X(of, m) X(of, s)
 #define LISTS(X, of) \
-    X(of, e) X(of, g) X(of, l) X(of, a) X(of, b) X(of, k) X(of, ks) X(of, h) X(of, m) X(of, s) X(of, cl) X(of, cb) X(of, kd) X(of, start) \
-    X(of, channel) X(of, storage) X(of, sediment) X(of, starts) X(of, concentrations)
+    X(of, cl) X(of, cb) X(of, kd) X(of, start) X(of, channel) X(of, storage) X(of, sediment) X(of, starts) X(of, concentrations)
 #define FIELDS(X) \
     X(yumbaqel_reach, segments) X(yumbaqel_reach, dispersion) X(yumbaqel_reach, area) X(yumbaqel_reach, area2) \
     X(yumbaqel_reach, alpha) X(yumbaqel_reach, qin) X(yumbaqel_reach, qout) X(yumbaqel_reach, cl) X(yumbaqel_reach, lambda) \
     X(yumbaqel_reach, lambda2) X(yumbaqel_reach, lamhat) X(yumbaqel_reach, lamhat2) X(yumbaqel_reach, rho) X(yumbaqel_reach, kd) \
     X(yumbaqel_reach, cb) X(yumbaqel_reach, start) \
     X(yumbaqel_loaded, steps) X(yumbaqel_loaded, interval) X(yumbaqel_loaded, segments) X(yumbaqel_loaded, rows_at) \
-    X(yumbaqel_loaded, rows) X(yumbaqel_loaded, gauges_at) X(yumbaqel_loaded, gauges) \
+    X(yumbaqel_loaded, rows) X(yumbaqel_loaded, gauges_at) X(yumbaqel_loaded, gauges) X(yumbaqel_loaded, flow_rows_at) \
+    X(yumbaqel_loaded, flow_rows) \
     X(yumbaqel_list, at) X(yumbaqel_list, length) X(yumbaqel_wide_list, at) X(yumbaqel_wide_list, length) \
+    SET_LISTS(X, yumbaqel_set) X(yumbaqel_set, flow) X(yumbaqel_river, sets) \
     LISTS(X, yumbaqel_river) X(yumbaqel_river, p) X(yumbaqel_river, y) X(yumbaqel_river, upstream) X(yumbaqel_river, done) \
     X(yumbaqel_river, loaded) X(yumbaqel_river, sheet) X(yumbaqel_river, sheet_length) X(yumbaqel_river, rows) \
     X(yumbaqel_refusal, number) X(yumbaqel_refusal, kind) X(yumbaqel_refusal, place) \
@@ -108,10 +112,11 @@ static void print_struct(const char *what, const char *structure, const void *at
 #define ROOM 1100                  /* entries of a list: more than a river may have */
 #define ROW_ROOM 16
 
-static uint8_t sheets[2][YUMBAQEL_LONGEST_SHEET + 1];
-static size_t lengths[2];
+static uint8_t sheets[3][YUMBAQEL_LONGEST_SHEET + 1];
+static size_t lengths[3];
 static struct yumbaqel_reach reaches[3];
 static uint32_t words[17 * ROOM], copy_words[3 * ROOM], row_words[2 * ROW_ROOM];
+static uint32_t set_words[10 * ROOM];
 static uint64_t wide_words[2 * ROOM], copy_wide_words[2 * ROOM];
 static struct yumbaqel_river rivers[2];
 static int lent[2];
@@ -124,6 +129,7 @@ static const struct {
     {"words", words, SIZE(words), sizeof *words}, {"copy_words", copy_words, SIZE(copy_words), sizeof *copy_words},
     {"row_words", row_words, SIZE(row_words), sizeof *row_words}, {"wide_words", wide_words, SIZE(wide_words), sizeof *wide_words},
     {"copy_wide_words", copy_wide_words, SIZE(copy_wide_words), sizeof *copy_wide_words},
+    {"set_words", set_words, SIZE(set_words), sizeof *set_words},
     {"sheet", sheets, SIZE(sheets), sizeof *sheets}};
 
 static void fill(void)
@@ -176,16 +182,22 @@ static void print_wide_list(const char *name, const struct yumbaqel_wide_list *l
     printf("\n");
 }
 
-static const struct field lists[] = {LISTS(FIELD, yumbaqel_river)};
+static const struct field lists[] = {LISTS(FIELD, yumbaqel_river)}, set_lists[] = {SET_LISTS(FIELD, yumbaqel_set)};
 
-static struct yumbaqel_list *list_of(struct yumbaqel_river *river, const struct field *field)
+/* A list of a river or of a set. */
+static struct yumbaqel_list *list_of(void *structure, const struct field *field)
 {
-    return (struct yumbaqel_list *)(void *)((char *)river + field->offset);
+    return (struct yumbaqel_list *)(void *)((char *)structure + field->offset);
 }
 
 static void print_river(struct yumbaqel_river *river)
 {
-    size_t i;
+    size_t i, set;
+    for (set = 0; set < SIZE(river->sets); set++) {
+        printf(" set %llu flow %llu\n", UNSIGNED(set), UNSIGNED(river->sets[set].flow));
+        for (i = 0; i < SIZE(set_lists); i++)
+            print_list(set_lists[i].name, list_of(&river->sets[set], &set_lists[i]));
+    }
     for (i = 0; i < SIZE(lists); i++)
         print_list(lists[i].name, list_of(river, &lists[i]));
     print_wide_list("p", &river->p);
@@ -210,9 +222,14 @@ int recorder_marks;                /* the recorder's: number, kind and place are
 
 #define IS(what) (strcmp(name, what) == 0)
 
+/* A list by its name; that of a set has the set's number and a point before it. */
 static struct yumbaqel_list *named(struct yumbaqel_river *river, const char *name)
 {
     size_t i;
+    if (name[0] != '\0' && name[1] == '.')
+        for (i = 0; i < SIZE(set_lists); i++)
+            if (strcmp(name + 2, set_lists[i].name) == 0)
+                return list_of(&river->sets[name[0] - '0'], &set_lists[i]);
     for (i = 0; i < SIZE(lists); i++)
         if (IS(lists[i].name))
             return list_of(river, &lists[i]);
@@ -227,13 +244,17 @@ static int lend(const char *name, struct yumbaqel_river *river, size_t first)
         yumbaqel_river_lend(river, first, words, wide_words);
     else if (IS("lend_state"))
         yumbaqel_river_lend_state(river, first, copy_words, copy_wide_words);
+    else if (IS("set_lend"))
+        yumbaqel_set_lend(&river->sets[0], first, set_words);
+    else if (IS("lend_set"))
+        yumbaqel_river_lend_set(river, first, set_words);
     else if (IS("lend_rows"))
         yumbaqel_river_lend_rows(river, first, row_words);
     else if (IS("lend_copy"))
         yumbaqel_river_lend_copy(river, origin, first, copy_words, copy_wide_words);
     else if (IS("divide")) {
         two[0] = &river->cb;
-        two[1] = &river->a;
+        two[1] = &river->sets[0].a;
         yumbaqel_divide(two, 2, first, row_words);
     } else
         return 0;
@@ -247,13 +268,20 @@ static void report_by_macros(const struct yumbaqel_river *river, uint32_t segmen
     struct yumbaqel_refusal told;
     struct yumbaqel_figures figures = {11, 12, 13};
     yumbaqel_report(&told.number, &told.kind, &told.place, &figures.channel, &figures.storage, &figures.sediment,
-                    river->loaded.segments, YUMBAQEL_LISTS(river), YUMBAQEL_FIGURES(river), river->upstream, river->done, segment);
+                    river->loaded.segments, YUMBAQEL_SET(&river->sets[0]), YUMBAQEL_OTHERS(river), YUMBAQEL_FIGURES(river),
+                    river->upstream, river->done, segment);
     print_told(told);
     print_struct("reported", "yumbaqel_figures", &figures);
 }
 
+/* The number of a set of the river, or -1 where there is none. */
+static int number_of(const struct yumbaqel_river *river, const struct yumbaqel_set *set)
+{
+    return set == NULL ? -1 : (int)(set - river->sets);
+}
+
 /* What a helper only reads it must take as const. */
-static int call(const char *name, struct yumbaqel_river *river, uint32_t first)
+static int call(const char *name, struct yumbaqel_river *river, uint32_t first, uint32_t second)
 {
     const struct yumbaqel_river *const lasting = river, *const other = &rivers[first % SIZE(rivers)];
     const uint8_t *const sheet = sheets[first % SIZE(sheets)];
@@ -275,6 +303,14 @@ static int call(const char *name, struct yumbaqel_river *river, uint32_t first)
         printf(" dt %llu\n", UNSIGNED(yumbaqel_river_dt(lasting)));
     else if (IS("dx"))
         printf(" dx %llu\n", UNSIGNED(yumbaqel_river_dx(lasting)));
+    else if (IS("flow"))
+        printf(" flow %llu\n", UNSIGNED(yumbaqel_river_flow(lasting, first)));
+    else if (IS("set"))
+        printf(" set %d\n", number_of(lasting, yumbaqel_river_set(lasting, first)));
+    else if (IS("load_flow"))
+        print_told(yumbaqel_river_load_flow(river, first, second, reaches, SIZE(reaches)));
+    else if (IS("sets"))
+        print_told(yumbaqel_river_sets(river, reaches, first));
     else if (IS("start"))
         print_told(yumbaqel_river_start(river, first));
     else if (IS("step"))
@@ -305,6 +341,8 @@ static int change(const char *name, struct yumbaqel_river *river, const char *fi
         river->loaded.segments = (uint32_t)first;
     else if (IS("steps"))
         river->loaded.steps = (uint32_t)first;
+    else if (IS("done"))
+        river->done = (uint32_t)first;
     else if (IS("marks"))
         recorder_marks = (int)first;
     else
@@ -326,10 +364,10 @@ int main(int count, char **arguments)
     char line[200], name[32], field[32];
     unsigned which;
     unsigned long first, second;
-    if (count != 3)
+    if (count != 1 + (int)SIZE(sheets))
         return 2;
-    lengths[0] = read_sheet(arguments[1], sheets[0]);
-    lengths[1] = read_sheet(arguments[2], sheets[1]);
+    for (which = 0; which < SIZE(sheets); which++)
+        lengths[which] = read_sheet(arguments[1 + which], sheets[which]);
     print_names();
     printf("version %llu\n", UNSIGNED(yumbaqel_version()));
     fill();
@@ -337,7 +375,7 @@ int main(int count, char **arguments)
         if (sscanf(line, "%31s %u %31s %lu %lu", name, &which, field, &first, &second) != 5)
             return 2;
         printf("%s", line);
-        if (!lend(name, &rivers[which], first) && !call(name, &rivers[which], (uint32_t)first)
+        if (!lend(name, &rivers[which], first) && !call(name, &rivers[which], (uint32_t)first, (uint32_t)second)
             && !change(name, &rivers[which], field, first, (uint32_t)second))
             return 2;
         for (which = 0; which < SIZE(rivers); which++)

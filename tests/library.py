@@ -11,16 +11,16 @@ from array import array
 from pathlib import Path
 from typing import NamedTuple, Union
 
-from model import Reach, Segment
+from model import SET, Reach
 
 ROOT = Path(__file__).parent.parent
 INCLUDE = f"-I{ROOT / 'include'}"
 STRICT = ("-pedantic", "-Wall", "-Wextra", "-Werror")
-COLUMNS = Segment._fields           # the fourteen lists, in the order of the calls
+OLD = tuple(f"{name}0" for name in SET)     # the lists of a step's old side, which stand in front of the others
 FIGURES = ("C", "Z", "W")           # the state's lists
 WORKING = ("p", "y")
 CALLS = ("load", "start", "step", "report", "upstream", "rows")
-READINGS = ("gauge", "dt", "dx", "version")     # these have a result and no answer
+READINGS = ("gauge", "flow", "dt", "dx", "version")     # these have a result and no answer
 KINDS = {0: None, 1: "reach", 2: "segment", 3: "row"}
 TYPES = {1: "B", 4: "I", 8: "Q"}    # by the bytes of an entry
 GUARDS = 3                          # entries in front of a list and behind it

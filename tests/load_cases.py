@@ -3,7 +3,7 @@
     python3 tests/load_cases.py            writes crates/cases/stdin and crates/cases/stdout
     python3 tests/load_cases.py DIR OUT    the same for a folder of vectors (*.otr), as OUT.stdin and OUT.stdout
 
-A case has two fields in front of its sheet (see crates/cases/src/main.rt); the lists are lent full of sevens.
+A case has three fields in front of its sheet (see crates/cases/src/main.rt); the lists are lent full of sevens.
 """
 from __future__ import annotations
 
@@ -15,7 +15,7 @@ from typing import NamedTuple
 import model
 import sheets
 from model import MARK, Reach
-from sheets import BROOK_REACH, Draft, brook, offset, put, still_reaches, word, write
+from sheets import BROOK_REACH, UNKNOWN_MARK, Draft, brook, offset, put, still_reaches, word, write
 
 ROOM = 1_100                        # the length of the program's lists
 SEVEN = 7
@@ -25,10 +25,11 @@ CRATE = Path(__file__).resolve().parent.parent / "crates" / "cases"
 
 
 class Lent(NamedTuple):
-    """A sheet with the length of the list of reach records that is lent."""
+    """A sheet with the length of the list of reach records that is lent and the flow row's number handed."""
 
     sheet: bytes
     records: int = RECORDS
+    row: int = 0
 
 
 def two_reaches() -> Draft:
@@ -42,6 +43,11 @@ def two_reaches() -> Draft:
 
 
 def chosen() -> Iterator[Lent]:
+    yield from without_flow_rows()
+    yield from with_flow_rows()
+
+
+def without_flow_rows() -> Iterator[Lent]:
     """Each bench line, each refusal with its place, cuts inside each section."""
     for case in sheets.bench_cases():
         yield Lent(case.sheet)
@@ -54,7 +60,7 @@ def chosen() -> Iterator[Lent]:
     yield Lent(write(still_reaches(1_000, 25)), records=0)      # 7 before 13
     yield Lent(b"")                                             # 1
     yield Lent(b"OTR")
-    yield Lent(b"OTR2" + sheet[len(MARK):])
+    yield Lent(UNKNOWN_MARK + sheet[len(MARK):])
     for cut in range(len(MARK), len(sheet), 9):                 # 2, in every section
         yield Lent(sheet[:cut])
     for case in sheets.counted_sheets(full):                    # 3
@@ -79,11 +85,41 @@ def chosen() -> Iterator[Lent]:
     yield Lent(write(brook(dt=1, Q=0, ALPHA=705_882_353, A=17, AS=6, D=0)))                 # b rounds to one whole
 
 
+def with_flow_rows() -> Iterator[Lent]:
+    """Each flow's set, each ground of 16 with its row, tests 10 to 12 for rows, and numbers past the rows."""
+    full, last = two_reaches().with_flows((1, 0), (4, 7_000), (9, 60)), model.MOST_FLOW_ROWS
+    for row in (0, 1, 2, 3, 4, sheets.HIGHEST_FIELD):           # 13 past the rows
+        yield Lent(write(full), row=row)
+    yield Lent(write(full), records=1, row=2)                   # 13
+    yield Lent(write(two_reaches()), row=1)                     # 13: OTR1 has none
+    small = brook(dt=2, Q=500, U=9, M=6).with_flows((1, 0), (3, 900), (6, 500))
+    sheet, count = write(small), offset(small, "count of flow rows")
+    for case in sheets.other_marks(small):                      # 1, 2, 3 and 4
+        yield Lent(case.sheet)
+    for cut in range(count, len(sheet), 5):                     # 2
+        yield Lent(sheet[:cut])
+    for figure in (0, last + 1, 2 ** 31):                       # 3
+        yield Lent(put(sheet, count, figure))
+    yield Lent(sheet + b"\0", row=4)                            # 4 before 13
+    for starts in ((0,), (7,), (1, 7), (1, 1), (2, 1), (1, 3, 2), (1, 0)):                  # 16
+        yield Lent(write(small.with_flows(*((start, 5) for start in starts))))
+    for row in (1, 3):
+        yield Lent(put(sheet, offset(small, f"flow row {row} top flow"), model.HIGHEST_FLOW + 1))
+    for number in (9, 10, 11, 12):                              # 9 before 16, and 16 before 10 to 12
+        yield Lent(sheets.with_faults(sheets.plain_flows(), [number, 16], {}, {}))
+    for fault in sheets.flow_faults():                          # 10 to 12
+        if len(fault.draft.flow_rows) < 3:
+            yield Lent(write(fault.draft))
+    for draft in (sheets.falling(91, *[91] * (last - 1), 90), sheets.halving(100, *[0, 100] * (last // 2))):
+        yield Lent(write(draft), row=last)
+    yield Lent(write(sheets.filling(0, 334)), row=2)            # 12 before 13
+
+
 def answer(lent: Lent) -> str:
     """What the program prints for a case."""
     lists = model.Lists(ROOM, SEVEN)
     try:
-        found = model.load(lent.sheet, lists, [None] * lent.records)
+        found = model.load(lent.sheet, lent.row, lists, [None] * lent.records)
         line = "accepted " + " ".join(str(figure) for figure in found)
     except model.Refusal as refusal:
         place = "nothing" if refusal.place is None else " ".join(str(part) for part in refusal.place)
@@ -95,7 +131,7 @@ def answer(lent: Lent) -> str:
 def write_cases(cases: Iterable[Lent], given: Path, wanted: Path) -> int:
     """The input and the output that belong together; the count of cases."""
     taken = list(cases)
-    text = b"".join(word(len(lent.sheet)) + word(lent.records) + lent.sheet for lent in taken)
+    text = b"".join(word(len(lent.sheet)) + word(lent.records) + word(lent.row) + lent.sheet for lent in taken)
     if len(text) > MOST_INPUT:
         raise SystemExit(f"{len(text)} bytes are more than the program reads")
     given.write_bytes(text)

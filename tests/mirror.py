@@ -6,24 +6,26 @@ from typing import NamedTuple, Optional
 
 import model
 import sheets
-from calls import place_of, row_count_at
-from library import COLUMNS, FIGURES
-from model import HIGHEST, HIGHEST_KD, MOST_SEGMENTS, MOST_STEPS, Row
+from calls import place_of
+from library import FIGURES
+from model import COLUMNS, HIGHEST, HIGHEST_KD, MOST_FLOW_ROWS, MOST_SEGMENTS, MOST_STEPS, SET, Row
 from signatures import MARKS, RESULT_MARK, Signature, recorded
 
 # The header's names for the document's.
 REACH = dict(zip(("segments", "dispersion", "area", "area2", "alpha", "qin", "qout", "cl", "lambda", "lambda2",
                   "lamhat", "lamhat2", "rho", "kd", "cb", "start"), model.Reach._fields))
-LOADED = dict(zip(("steps", "interval", "segments", "rows_at", "rows", "gauges_at", "gauges"),
-                  model.Loaded._fields))
-LOADED_LISTS = [name.lower() for name in COLUMNS]
+LOADED = dict(zip(("steps", "interval", "segments", "rows_at", "rows", "gauges_at", "gauges", "flow_rows_at",
+                   "flow_rows"), model.Loaded._fields))
+OTHER_LISTS = [name.lower() for name in COLUMNS[len(SET):]]
 STATE_LISTS = dict(zip(("channel", "storage", "sediment"), FIGURES))
 ROW_LISTS = ("starts", "concentrations")
-LISTS = (*LOADED_LISTS, *STATE_LISTS, *ROW_LISTS)
+LISTS = (*OTHER_LISTS, *STATE_LISTS, *ROW_LISTS)
 WIDE_LISTS = ("p", "y")
+SETS = (0, 1)                       # of a river
+NO_FLOW = MOST_FLOW_ROWS + 1
 
 # Lists that each macro counts.
-MACROS = {"WORDS": len(LOADED_LISTS) + len(STATE_LISTS), "COPY_WORDS": len(STATE_LISTS),
+MACROS = {"WORDS": len(COLUMNS) + len(STATE_LISTS), "SET_WORDS": len(SET), "COPY_WORDS": len(STATE_LISTS),
           "WIDE_WORDS": len(WIDE_LISTS), "ROW_WORDS": len(ROW_LISTS)}
 
 DIRTY = 0xA5A5A5A5
@@ -35,7 +37,17 @@ MEMORY = {                          # the first figure of each memory, and how m
     "row_words": (3_000_000, MACROS["ROW_WORDS"] * ROW_ROOM),
     "wide_words": (4_000_000, MACROS["WIDE_WORDS"] * ROOM),
     "copy_wide_words": (5_000_000, MACROS["WIDE_WORDS"] * ROOM),
+    "set_words": (6_000_000, MACROS["SET_WORDS"] * ROOM),
 }
+
+
+def set_lists(at: int) -> tuple[str, ...]:
+    """The names of a set's lists: with the set's number."""
+    return tuple(f"{at}.{name}" for name in SET)
+
+
+Told = tuple[int, int, int]         # number, kind and place
+ACCEPTED: Told = (0, 0, 0)
 
 
 class Stretch(NamedTuple):
@@ -71,6 +83,7 @@ class Mirrored:
 
     def __init__(self) -> None:
         self.lists: dict[str, Stretch] = {}
+        self.flows = [NO_FLOW for _ in SETS]
         self.upstream = self.done = self.rows = 0
         self.sheet = "words 0"
         self.bytes = b""
@@ -78,14 +91,14 @@ class Mirrored:
 
     def copy(self) -> Mirrored:
         found = Mirrored()
-        found.__dict__.update(self.__dict__, lists=dict(self.lists), loaded=dict(self.loaded))
+        found.__dict__.update(self.__dict__, lists=dict(self.lists), loaded=dict(self.loaded), flows=list(self.flows))
         return found
 
 
 class Mirror:
     """What header.c prints for commands, where each call of the library is the model's."""
 
-    def __init__(self, library: dict[str, Signature], given: tuple[bytes, bytes]) -> None:
+    def __init__(self, library: dict[str, Signature], given: tuple[bytes, ...]) -> None:
         self.library = library
         self.given = given
         self.memory = {name: [first + at for at in range(count)] for name, (first, count) in MEMORY.items()}
@@ -113,39 +126,52 @@ class Mirror:
         self.divide(river, WIDE_LISTS, segments, wide_words)
         river.upstream = river.done = 0
 
+    def lend_set(self, river: Mirrored, at: int, segments: int, words: str) -> None:
+        self.divide(river, set_lists(at), segments, words)
+        river.flows[at] = NO_FLOW
+
     def lend(self, command: Command) -> None:
         length = command.first
         if command.name == "lend":
             river = self.rivers[command.river] = Mirrored()
-            self.divide(river, tuple(LOADED_LISTS), length, "words")
-            self.lend_state(river, length, "words", "wide_words", len(LOADED_LISTS) * length)
+            self.lend_set(river, 0, length, "words")
+            self.lend_set(river, 1, 0, "words")
+            self.divide(river, tuple(OTHER_LISTS), length, "words", len(SET) * length)
+            self.lend_state(river, length, "words", "wide_words", len(COLUMNS) * length)
             self.divide(river, ROW_LISTS, 0, "words")
         elif command.name == "lend_copy":
             river = self.rivers[command.river] = self.rivers[0].copy()
             self.lend_state(river, length, "copy_words", "copy_wide_words")
+            for at in SETS if river.loaded["flow_rows"] else (1,):
+                self.lend_set(river, at, 0, "copy_words")
+        elif command.name in ("set_lend", "lend_set"):
+            self.lend_set(self.rivers[command.river], int(command.name == "lend_set"), length, "set_words")
         elif command.name == "lend_state":
             self.lend_state(self.rivers[command.river], length, "copy_words", "copy_wide_words")
         elif command.name == "lend_rows":
             self.divide(self.rivers[command.river], ROW_LISTS, length, "row_words")
             self.rivers[command.river].rows = 0
         elif command.name == "divide":
-            self.divide(self.rivers[command.river], ("cb", "a"), length, "row_words")
+            self.divide(self.rivers[command.river], ("cb", "0.a"), length, "row_words")
 
     # calls
 
-    def call(self, name: str, river: Mirrored, answer: Callable[[], None], **handed: int) -> bool:
-        """A call that tells number, kind and place; whether it was accepted."""
+    def made(self, name: str, river: Mirrored, answer: Callable[[], None], **handed: int) -> Told:
+        """A call of the library: number, kind and place."""
         self.record(name, river, **handed)
-        told = MARKS
-        if not self.marks:
-            refusal = None
-            try:
-                answer()
-            except model.Refusal as found:
-                refusal = found
-            told = place_of(refusal)
+        if self.marks:
+            return MARKS
+        try:
+            answer()
+        except model.Refusal as refusal:
+            return place_of(refusal)
+        return ACCEPTED
+
+    def call(self, name: str, river: Mirrored, answer: Callable[[], None], **handed: int) -> bool:
+        """A helper that makes one call and tells its answer; whether it was accepted."""
+        told = self.made(name, river, answer, **handed)
         self.tell(told)
-        return told[0] == 0
+        return told == ACCEPTED
 
     def record(self, name: str, river: Mirrored, **handed: int) -> None:
         values = {f"{each}_length": stretch.length for each, stretch in river.lists.items()}
@@ -155,36 +181,63 @@ class Mirror:
         shown = "".join(f" {each} {values[each]}" for each in recorded(signature))
         self.lines.append(f" call {signature.name}{shown}")
 
-    def tell(self, told: tuple[int, int, int]) -> None:
+    def tell(self, told: Told) -> None:
         self.lines.append(" told number {} kind {} place {}".format(*told))
 
-    def lent(self, river: Mirrored) -> tuple[model.Lists, model.State]:
+    def lent_set(self, river: Mirrored, at: int) -> model.Lists:
+        """The lists of one set alone, as the old side of a step is lent them."""
         lists = model.Lists(0)
-        lists.column = {name: self.content(river, name.lower()) for name in COLUMNS}
+        lists.column = {name: self.content(river, each) for name, each in zip(SET, set_lists(at))}
+        return lists
+
+    def lent(self, river: Mirrored, at: int = 0) -> tuple[model.Lists, model.State]:
+        """The lists of a loading with one of the sets, and the state."""
+        lists = self.lent_set(river, at)
+        lists.column |= {name: self.content(river, name.lower()) for name in COLUMNS[len(SET):]}
         return lists, model.State(*(self.content(river, name) for name in STATE_LISTS), river.upstream, river.done)
+
+    @staticmethod
+    def lengths(river: Mirrored, at: int = 0, side: str = "") -> dict[str, int]:
+        """The lengths of a set as a call is handed them."""
+        return {f"{name}{side}_length": river.lists[each].length for name, each in zip(SET, set_lists(at))}
 
     def keep(self, river: Mirrored, state: model.State) -> None:
         for name, each in STATE_LISTS.items():
             self.write(river, name, getattr(state, each))
         river.upstream, river.done = state.U, state.count
 
-    def load(self, river: Mirrored, which: int) -> None:
-        lists, _ = self.lent(river)
-        sheet = self.given[which]
+    def load_set(self, river: Mirrored, sheet: bytes, flow: int, at: int, records: int) -> tuple[Told, model.Loaded]:
+        """A loading for a flow into one of the sets."""
+        lists, _ = self.lent(river, at)
+        loaded = model.Loaded(*[0] * len(LOADED))
 
         def answer() -> None:
-            loaded = model.load(sheet, lists, self.reaches)
-            river.loaded = {name: getattr(loaded, each) for name, each in LOADED.items()}
+            nonlocal loaded
+            reaches = self.reaches[:records]
+            loaded = model.load(sheet, flow, lists, reaches)
+            self.reaches[:records] = reaches
 
-        if self.call("load", river, answer, sheet_length=len(sheet), reaches_length=RECORDS):
+        told = self.made("load", river, answer, **self.lengths(river, at), sheet_length=len(sheet), row=flow,
+                         reaches_length=records)
+        if told == ACCEPTED:
             for name, column in lists.column.items():
-                self.write(river, name.lower(), column)
+                self.write(river, f"{at}.{name}" if name in SET else name.lower(), column)
+            river.flows[at] = flow
+        return told, loaded
+
+    def load(self, river: Mirrored, which: int) -> None:
+        sheet = self.given[which]
+        told, loaded = self.load_set(river, sheet, 0, 0, RECORDS)
+        self.tell(told)
+        if told == ACCEPTED:
+            river.loaded = {name: getattr(loaded, each) for name, each in LOADED.items()}
             river.sheet, river.bytes, river.rows = f"sheet {which}", sheet, 0
+            river.flows[1] = NO_FLOW
         self.lines += [" reach" + "".join(f" {name} {getattr(reach, each)}" for name, each in REACH.items())
                        for reach in self.reaches]
 
     def rows(self, river: Mirrored) -> None:
-        begin = row_count_at(river.bytes)
+        begin = model.row_count_at(river.bytes)
         count = model.field_at(river.bytes, begin)
 
         def answer() -> None:
@@ -219,16 +272,46 @@ class Mirror:
         else:
             self.lines.append(" gauge 0")
 
+    def flow(self, river: Mirrored, j: int) -> int:
+        """The flow in force at a step; without flow rows nobody is asked."""
+        if not river.loaded["flow_rows"]:
+            return 0
+        self.record("flow", river, j=j)
+        return RESULT_MARK if self.marks else model.flow_in_force(river.bytes, j)
+
+    def pair(self, river: Mirrored) -> list[int]:
+        """The flows of the old and of the new side of the next step."""
+        return [self.flow(river, j) for j in (river.done, river.done + 1)]
+
+    def load_flow(self, river: Mirrored, flow: int, keep: int, records: int = RECORDS) -> Told:
+        """A loading where neither set is that flow's, in place of the one that is not the kept flow's."""
+        if flow in river.flows:
+            return ACCEPTED
+        return self.load_set(river, river.bytes, flow, int(river.flows[0] == keep), records)[0]
+
+    def sets(self, river: Mirrored, records: int) -> None:
+        old, new = self.pair(river)
+        told = self.load_flow(river, old, new, records)
+        self.tell(self.load_flow(river, new, old, records) if told == ACCEPTED else told)
+
     def start(self, river: Mirrored, u: int) -> None:
         lists, state = self.lent(river)
-        if self.call("start", river, lambda: model.start(lists, river.loaded["segments"], state, u), u=u):
+        if self.call("start", river, lambda: model.start(lists, river.loaded["segments"], state, u),
+                     **self.lengths(river), u=u):
             self.keep(river, state)
 
     def step(self, river: Mirrored, u: int) -> None:
-        lists, state = self.lent(river)
+        flows = self.pair(river)
+        if not set(flows) <= set(river.flows):
+            self.tell(place_of(model.Refusal(13)))
+            return
+        old, new = map(river.flows.index, flows)
+        before = self.lent_set(river, old)
+        lists, state = self.lent(river, new)
         p, y = (self.content(river, name) for name in WIDE_LISTS)
-        if self.call("step", river, lambda: model.step(lists, river.loaded["segments"], state, p, y, u,
-                                                       river.loaded["steps"]), u=u):
+        if self.call("step", river, lambda: model.step(before, lists, river.loaded["segments"], state, p, y, u,
+                                                       river.loaded["steps"]),
+                     **self.lengths(river, old, "0"), **self.lengths(river, new), u=u):
             self.keep(river, state)
             self.write(river, "p", p)
             self.write(river, "y", y)
@@ -240,7 +323,7 @@ class Mirror:
             nonlocal figures
             figures = model.report(lists, river.loaded["segments"], state, segment)
 
-        self.call("report", river, answer, segment=segment)
+        self.call("report", river, answer, **self.lengths(river), segment=segment)
         self.lines.append(" reported channel {} storage {} sediment {}".format(*figures))
 
     def copy_state(self, to: Mirrored, source: Mirrored) -> None:
@@ -252,15 +335,21 @@ class Mirror:
         for name in STATE_LISTS:
             self.write(to, name, self.content(source, name)[:n])
         to.upstream, to.done = source.upstream, source.done
-        self.tell(place_of(None))
+        self.tell(ACCEPTED)
 
     def do(self, command: Command) -> None:
         """One command, then both rivers as they stand."""
         self.lines.append(str(command))
         self.lend(command)
         river, name, first = self.rivers[command.river], command.name, command.first
-        if name in ("load", "start", "step", "upstream", "gauge"):
+        if name in ("load", "start", "step", "upstream", "gauge", "sets"):
             getattr(self, name)(river, first)
+        elif name == "flow":
+            self.lines.append(f" flow {self.flow(river, first)}")
+        elif name == "set":
+            self.lines.append(f" set {river.flows.index(first) if first in river.flows else -1}")
+        elif name == "load_flow":
+            self.tell(self.load_flow(river, first, command.second))
         elif name == "rows":
             self.rows(river)
         elif name in ("dt", "dx"):
@@ -281,17 +370,26 @@ class Mirror:
             self.memory[memory][at + first] = command.second
         elif name in ("segments", "steps"):
             river.loaded[name] = first
+        elif name == "done":
+            river.done = first
         elif name == "marks":
             self.marks = bool(first)
         for each in self.rivers:
             if each is not None:
                 self.show(each)
 
+    def show_list(self, river: Mirrored, name: str) -> None:
+        memory, at, length = river.lists[name]
+        content = "".join(f" {figure}" for figure in self.content(river, name)[:SHOWN])
+        self.lines.append(f" {name.split('.')[-1]} {memory} {at} {length}:{content}")
+
     def show(self, river: Mirrored) -> None:
+        for at in SETS:
+            self.lines.append(f" set {at} flow {river.flows[at]}")
+            for name in set_lists(at):
+                self.show_list(river, name)
         for name in (*LISTS, *WIDE_LISTS):
-            memory, at, length = river.lists[name]
-            content = "".join(f" {figure}" for figure in self.content(river, name)[:SHOWN])
-            self.lines.append(f" {name} {memory} {at} {length}:{content}")
+            self.show_list(river, name)
         loaded = "".join(f" {name} {figure}" for name, figure in river.loaded.items())
         self.lines.append(f" upstream {river.upstream} done {river.done} rows {river.rows} sheet {river.sheet} "
                           f"length {len(river.bytes)}")
@@ -310,20 +408,31 @@ def distinct_draft() -> sheets.Draft:
                         [Row(0, 7_000), Row(2, 900_000), Row(3, 0), Row(5, 44_000)], [1, 3, 5])
 
 
+def with_flow_rows(draft: sheets.Draft) -> sheets.Draft:
+    """The same with four flow rows: one at step 1, two one behind the other, one at M, and no two flows alike."""
+    return draft.with_flows((1, 25_000), (3, 15_000), (4, 40_000), (draft.header.M, 31_000))
+
+
 def commands(draft: sheets.Draft) -> list[Command]:
     """Every helper, accepted and refused, on lists of different lengths, before a loading and after it."""
+    return [Command.of(line) for line in (*plain_commands(draft), *flow_commands(with_flow_rows(draft)))]
+
+
+def plain_commands(draft: sheets.Draft) -> list[str]:
+    """On sheets without flow rows."""
     n, M = draft.segments, draft.header.M
-    lent = (*LOADED_LISTS, *STATE_LISTS)
-    found = [f"lend 0 {ROOM}", "rows 0", "upstream 0", "gauge 0", "dt 0", "dx 0", "start 0 5", "step 0 6", "report 0 1",
-             "copy_state 0"]
+    lent = (*set_lists(0), *OTHER_LISTS, *STATE_LISTS)
+    found = [f"lend 0 {ROOM}", "rows 0", "upstream 0", "gauge 0", "dt 0", "dx 0", "flow 0 3", "set 0 0", "start 0 5",
+             "step 0 6", "report 0 1", "copy_state 0", f"sets 0 {RECORDS}"]
     found += [f"length 0 {name} {ROOM - at}" for at, name in enumerate(lent)]
     found += [f"working 0 {ROOM - 20} {ROOM - 21}", "load 0 1", "load 0", "load 0 1", "rows 0", "upstream 0",
               f"lend_rows 0 {ROW_ROOM}", f"length 0 starts {ROW_ROOM - 1}", f"length 0 concentrations {ROW_ROOM - 2}",
-              "upstream 0", "rows 0", f"length 0 e {n - 1}", "load 0", f"length 0 e {ROOM}"]
+              "upstream 0", "rows 0", f"length 0 0.e {n - 1}", "load 0", f"length 0 0.e {ROOM}"]
     found += [f"upstream 0 {j}" for j in range(M + 2)]
     found += [f"put 0 starts 1 {M + 1}", "upstream 0 1", "rows 0"]
     found += [f"gauge 0 {j}" for j in range(len(draft.gauges) + 1)]
-    found += ["dt 0", "dx 0", f"start 0 {HIGHEST + 1}", "start 0 700", "step 0 8000", "step 0 650000", "step 0 31000"]
+    found += ["dt 0", "dx 0", "flow 0 1", f"start 0 {HIGHEST + 1}", "start 0 700", "step 0 8000", f"sets 0 {RECORDS}",
+              "step 0 650000", "step 0 31000"]
     found += [f"{name} 0 {segment}" for segment in range(n + 2) for name in ("report", "report_by_macros")]
     found += [f"put 0 kd 2 {HIGHEST_KD + 1}", "start 0 1", "step 0 1", "report 0 1", "load 0", "rows 0"]
     # a copy with its own state, which runs on while the river stays
@@ -344,4 +453,33 @@ def commands(draft: sheets.Draft) -> list[Command]:
               "steps 0 3", "step 0 1"]
     found += ["marks 0 1", "load 0 1", "rows 0", "upstream 0 1", "gauge 0 1", "dt 0", "dx 0", "start 0 1", "step 0 1",
               "report 0 1", "marks 0"]
-    return [Command.of(line) for line in found]
+    return found
+
+
+def flow_commands(draft: sheets.Draft) -> list[str]:
+    """On the sheet with flow rows, which is the third."""
+    n, M, last = draft.segments, draft.header.M, len(draft.flow_rows)
+    prepared = f"sets 0 {RECORDS}"
+    # one set is not enough where a row begins to hold; the second one has lengths of its own
+    found = [f"lend 0 {ROOM}", "load 0 2", "start 0 700", prepared, "step 0 5", f"lend_set 0 {ROOM}",
+             *(f"length 0 {name} {ROOM - 50 - at}" for at, name in enumerate(set_lists(1))), "set 0 0", "step 0 5"]
+    found += [f"flow 0 {j}" for j in range(M + 2)]
+    # each row's set, once; without it the step is refused, and so where the list of records is short
+    for j in range(M):
+        found += [f"step 0 {40_000 + j}", f"sets 0 {len(draft.reaches) - 1}", prepared, prepared,
+                  f"step 0 {50_000 + j}", f"report 0 {n}"]
+    found += [f"set 0 {flow}" for flow in range(last + 2)]
+    # on past M, from the start again, and from a step in the middle of a flow and between two
+    found += [f"steps 0 {MOST_STEPS}", prepared, "step 0 60000", "start 0 800", "step 0 61000", prepared,
+              "step 0 62000"]
+    for at, done in enumerate((3, 1, 4, 2, M - 1, 0, M + 3)):
+        found += [f"done 0 {done}", prepared, f"step 0 {63_000 + at}"]
+    # a flow loaded by its number, in place of the one that is not kept
+    found += [f"load_flow 0 {flow} {keep}" for flow, keep in ((2, last), (2, 2), (3, 2), (0, 3), (1, 0), (last + 1, 1))]
+    # a copy holds a state and has no set
+    found += [f"lend_copy 1 {ROOM}", "copy_state 1", "report 1 1", f"sets 1 {RECORDS}", "step 1 9", "load 1 2",
+              f"set_lend 1 {n}", "load 1 2", "report 1 2"]
+    found += ["marks 0 1", "flow 0 2", prepared, "load_flow 0 2 1", "step 0 1", "marks 0"]
+    # a sheet without flow rows again, and one that is refused
+    found += ["load 0 1", "load 0", "set 0 1", "step 0 7"]
+    return found

@@ -9,16 +9,19 @@ from __future__ import annotations
 import random
 from collections.abc import Callable, Iterator
 from dataclasses import dataclass, field, replace
+from itertools import combinations
 from typing import NamedTuple, Optional
 
 import model
-from model import (CONCENTRATION, FIELD, FLOW, HIGHEST, HIGHEST_FLOW, HIGHEST_KD, HIGHEST_RATE, KD_UNIT,
-                   LATERAL, LONGEST_SHEET, MARK, MOST_GAUGES, MOST_REACHES, MOST_ROWS, MOST_SEGMENTS,
-                   MOST_STEPS, ONE_WHOLE, RATE_UNIT, REACH_RANGES, Header, Range, Reach, Row)
+from model import (CONCENTRATION, FIELD, FLOW, FLOW_MARK, HIGHEST, HIGHEST_FLOW, HIGHEST_KD, HIGHEST_RATE,
+                   KD_UNIT, LATERAL, LONGEST_SHEET, MARK, MOST_FLOW_ROWS, MOST_GAUGES, MOST_REACHES, MOST_ROWS,
+                   MOST_SEGMENTS, MOST_STEPS, ONE_WHOLE, RATE_UNIT, REACH_RANGES, FlowRow, Header, Range, Reach, Row)
 
 HIGHEST_FIELD = 2 ** 32 - 1
 BUFFER = 65_536                     # a length at which a program may stop reading
 ACCEPTED = 0                        # in place of a refusal's number
+UNKNOWN_MARK = b"OTR3"
+ORDER = (*range(1, 10), 16, 10, 11, 12)     # of a loading's tests, but for 13
 
 
 class Case(NamedTuple):
@@ -29,16 +32,18 @@ class Case(NamedTuple):
     number: Optional[int] = None    # ACCEPTED or the refusal, where the making decides it
     exact: str = ""                 # "fractions" or "brackets": solve the exact river too
     pauses: tuple[int, ...] = ()    # offsets where the delivery of the sheet pauses
+    twin: bytes = b""               # another sheet that must give the same listing
 
 
 @dataclass
 class Draft:
-    """The fields of a sheet, before they are written."""
+    """The fields of a sheet, before they are written: marked OTR1 without flow rows, OTR2 with a list of them."""
 
     header: Header
     reaches: list[Reach]
     rows: list[Row] = field(default_factory=lambda: [Row(0, 0)])
     gauges: list[int] = field(default_factory=lambda: [1])
+    flow_rows: Optional[list[FlowRow]] = None
 
     def with_header(self, **changes: int) -> Draft:
         return replace(self, header=self.header._replace(**changes))
@@ -48,9 +53,17 @@ class Draft:
         reaches[at] = reaches[at]._replace(**changes)
         return replace(self, reaches=reaches)
 
+    def with_flows(self, *rows: tuple[int, int]) -> Draft:
+        """The same with these flow rows: start steps and top flows."""
+        return replace(self, flow_rows=[FlowRow(*row) for row in rows])
+
     @property
     def segments(self) -> int:
         return model.segment_count(self.reaches)
+
+    @property
+    def mark(self) -> bytes:
+        return MARK if self.flow_rows is None else FLOW_MARK
 
 
 class Field(NamedTuple):
@@ -78,6 +91,11 @@ def fields(draft: Draft) -> list[Field]:
     found.append(Field("count of gauges", len(draft.gauges), Range(1, MOST_GAUGES), 3))
     for at, gauge in enumerate(draft.gauges, 1):
         found.append(Field(f"gauge {at}", gauge, Range(1, draft.segments), 9))
+    if draft.flow_rows is not None:
+        found.append(Field("count of flow rows", len(draft.flow_rows), Range(1, MOST_FLOW_ROWS), 3))
+        for at, row in enumerate(draft.flow_rows, 1):
+            found.append(Field(f"flow row {at} start", row.start, Range(1, M), 16))
+            found.append(Field(f"flow row {at} top flow", row.top_flow, FLOW, 16))
     return found
 
 
@@ -87,7 +105,7 @@ def word(figure: int) -> bytes:
 
 def write(draft: Draft) -> bytes:
     """The sheet of a draft; figures may be outside their ranges."""
-    return MARK + b"".join(word(each.figure) for each in fields(draft))
+    return draft.mark + b"".join(word(each.figure) for each in fields(draft))
 
 
 def offset(draft: Draft, name: str) -> int:
@@ -278,40 +296,72 @@ def draw_river(rng: random.Random, segments: int, steps: int, dt: Optional[int] 
     return with_lateral_flow(rng, draft, lateral)
 
 
-def good_river(rng: random.Random, segments: int, steps: int, **choices) -> Draft:
+def top_flows(draft: Draft) -> Range:
+    """The flows at the top that keep every flow between 0 and what test 11 allows."""
+    own = model.reach_of_segments(draft.reaches)
+    gains = [flow - draft.header.top_flow for flow in model.flows(draft.header, own)]
+    limits = [min(HIGHEST_FLOW, (here + below) // draft.header.dx)
+              for _, here, below in model.dispersion_around(own)]
+    return Range(max(0, -min(gains)), min(limit - gain for limit, gain in zip(limits, gains)))
+
+
+def with_flow_rows(rng: random.Random, draft: Draft) -> Draft:
+    """Flow rows of every number, with flows at the ends of what passes tests 10 and 11 and between."""
+    low, high = top_flows(draft)
+    M = draft.header.M
+    starts = rng.sample(range(1, M + 1), rng.randint(1, min(M, rng.choice((1, 3, 12, MOST_FLOW_ROWS)))))
+    if rng.random() < 0.5:
+        starts[0] = rng.choice((1, M))
+    flow = draft.header.top_flow
+    rows = []
+    for start in sorted(set(starts)):
+        flow = rng.choice((low, high, flow, rng.randint(low, max(low, high)), log_uniform(rng, max(low, 1), high)))
+        rows.append((start, within(FLOW, flow)))
+    return draft.with_flows(*rows)
+
+
+def draw_flow_river(rng: random.Random, segments: int, steps: int, **choices) -> Draft:
+    return with_flow_rows(rng, draw_river(rng, segments, steps, **choices))
+
+
+Drawer = Callable[..., Draft]
+
+
+def good_river(rng: random.Random, segments: int, steps: int, draw: Drawer = draw_river, **choices) -> Draft:
     """The first accepted one; the draw is right nearly always, so the search is short."""
     for _ in range(1_000):
-        draft = draw_river(rng, segments, steps, **choices)
+        draft = draw(rng, segments, steps, **choices)
         if accepted(draft):
             return draft
     raise RuntimeError("no accepted river in 1,000 draws")
 
 
 def describe(draft: Draft) -> str:
+    rows = "" if draft.flow_rows is None else f", {len(draft.flow_rows)} flow rows"
     return (f"{draft.segments} segments in {len(draft.reaches)} reaches, {draft.header.M} steps, "
-            f"dt {draft.header.dt}, dx {draft.header.dx}")
+            f"dt {draft.header.dt}, dx {draft.header.dx}{rows}")
 
 
-def small_rivers(rng: random.Random, count: int) -> Iterator[Case]:
+def small_rivers(rng: random.Random, count: int, draw: Drawer = draw_river) -> Iterator[Case]:
     """Few segments and steps: the exact river in fractions."""
     for _ in range(count):
-        draft = good_river(rng, rng.randint(1, 4), rng.randint(1, 6))
+        draft = good_river(rng, rng.randint(1, 4), rng.randint(1, 6), draw)
         yield Case(describe(draft), write(draft), ACCEPTED, "fractions")
 
 
-def rivers(rng: random.Random, count: int, most: int = 2_000) -> Iterator[Case]:
+def rivers(rng: random.Random, count: int, most: int = 2_000, draw: Drawer = draw_river) -> Iterator[Case]:
     """All shapes, up to so many segments times steps; brackets around the exact river."""
     for _ in range(count):
         segments = log_uniform(rng, 1, 200)
         steps = log_uniform(rng, 1, max(1, most // segments))
-        draft = good_river(rng, segments, steps)
+        draft = good_river(rng, segments, steps, draw)
         yield Case(describe(draft), write(draft), ACCEPTED, "brackets")
 
 
-def unsifted_rivers(rng: random.Random, count: int) -> Iterator[Case]:
+def unsifted_rivers(rng: random.Random, count: int, draw: Drawer = draw_river) -> Iterator[Case]:
     """As drawn, with one to three reach fields drawn anew from their whole range: the model decides."""
     for _ in range(count):
-        draft = draw_river(rng, rng.randint(1, 12), rng.randint(1, 12))
+        draft = draw(rng, rng.randint(1, 12), rng.randint(1, 12))
         for _ in range(rng.randint(1, 3)):
             name = rng.choice([each for each in Reach._fields if each != "segments"])
             allowed = REACH_RANGES[name]
@@ -321,18 +371,18 @@ def unsifted_rivers(rng: random.Random, count: int) -> Iterator[Case]:
         yield Case(f"{describe(draft)}, {name} {figure}", write(draft))
 
 
-def large_rivers(rng: random.Random, count: int, steps: int = 8) -> Iterator[Case]:
+def large_rivers(rng: random.Random, count: int, steps: int = 8, draw: Drawer = draw_river) -> Iterator[Case]:
     """Near the limits of segments, reaches, rows and gauges."""
     for _ in range(count):
-        draft = good_river(rng, rng.choice((MOST_SEGMENTS, rng.randint(500, MOST_SEGMENTS))), steps)
+        draft = good_river(rng, rng.choice((MOST_SEGMENTS, rng.randint(500, MOST_SEGMENTS))), steps, draw)
         yield Case(describe(draft), write(draft), ACCEPTED, "brackets")
 
 
-def long_rivers(rng: random.Random, count: int, work: int = 6_000) -> Iterator[Case]:
+def long_rivers(rng: random.Random, count: int, work: int = 6_000, draw: Drawer = draw_river) -> Iterator[Case]:
     """Few segments, many steps."""
     for _ in range(count):
         segments = rng.randint(1, 5)
-        draft = good_river(rng, segments, work // segments)
+        draft = good_river(rng, segments, work // segments, draw)
         draft = draft.with_header(interval=rng.randint(1, 50))
         yield Case(describe(draft), write(draft), ACCEPTED, "brackets")
 
@@ -350,6 +400,11 @@ def plain() -> Draft:
                  [Row(0, 7_000), Row(2, 900_000), Row(5, 0)], [1, 5, 9])
 
 
+def plain_flows() -> Draft:
+    """The plain river with three flow rows, one at the last step."""
+    return plain().with_flows((1, 25_000), (3, 8_000), (6, 60_000))
+
+
 def rate_for(parts: int, dt: int) -> Optional[int]:
     """A rate whose half-step number is exactly this, if there is one."""
     guess = parts * 2 * RATE_UNIT // (dt * ONE_WHOLE)
@@ -360,11 +415,11 @@ def rate_for(parts: int, dt: int) -> Optional[int]:
 
 
 def tightened(draft: Draft) -> Optional[Draft]:
-    """LAMBDA and LAMBDA2 of each reach raised until its highest T and V are exactly one whole."""
-    river = model.river_of(model.read_sheet(write(draft)))
+    """LAMBDA and LAMBDA2 of each reach raised until its highest T and V, of all flows, are exactly one whole."""
+    rivers = model.rivers_of(model.read_sheet(write(draft)))
     first = 0
     for at, reach in enumerate(draft.reaches):
-        own = river[first:first + reach.segments]
+        own = [part.numbers for river in rivers for part in river[first:first + reach.segments]]
         first += reach.segments
         LAMBDA = rate_for(own[0].k + ONE_WHOLE - max(part.T for part in own), draft.header.dt)
         LAMBDA2 = rate_for(own[0].ks + ONE_WHOLE - max(part.V for part in own), draft.header.dt)
@@ -382,11 +437,11 @@ def next_rate(figure: int, dt: int) -> int:
     return figure
 
 
-def tight_rivers(rng: random.Random, count: int) -> Iterator[Case]:
+def tight_rivers(rng: random.Random, count: int, draw: Drawer = draw_river) -> Iterator[Case]:
     """Half-step sums at exactly one whole, and one part above it."""
     made = 0
     while made < count:
-        draft = tightened(good_river(rng, rng.randint(1, 6), rng.randint(1, 12), dt=rng.choice((1, 1, 2))))
+        draft = tightened(good_river(rng, rng.randint(1, 6), rng.randint(1, 12), draw, dt=rng.choice((1, 1, 2))))
         if draft is None:
             continue
         made += 1
@@ -403,14 +458,14 @@ def highest_figures(rng: random.Random) -> int:
     return rng.choice((HIGHEST, HIGHEST, HIGHEST, HIGHEST - rng.randint(0, 3)))
 
 
-def highest_rivers(rng: random.Random, count: int) -> Iterator[Case]:
+def highest_rivers(rng: random.Random, count: int, draw: Drawer = draw_river) -> Iterator[Case]:
     """Figures at 1,000,000,000 and no decay, so that rounding can carry one above it.
 
     In half of them h is one whole: W' is then the mean of C and C', which shows a C' above.
     """
     for _ in range(count):
         whole_h = rng.random() < 0.5
-        draft = good_river(rng, rng.randint(1, 10), rng.randint(1, 20), dt=2 if whole_h else None,
+        draft = good_river(rng, rng.randint(1, 10), rng.randint(1, 20), draw, dt=2 if whole_h else None,
                            figures=highest_figures)
         for at in range(len(draft.reaches)):
             draft = draft.with_reach(at, LAMBDA=0, LAMBDA2=0)
@@ -566,7 +621,7 @@ def extreme_rivers() -> Iterator[Case]:
 
 
 def fullest(rng: random.Random) -> Draft:
-    """The most reaches, rows and gauges: the longest sheet there is."""
+    """The most reaches, rows, gauges and flow rows: the longest sheet there is."""
     reach = plain().reaches[0]._replace(segments=1, qout=3_000)
     steps = MOST_ROWS - 1
     return Draft(Header(dt=10, dx=1_000, M=steps, interval=steps - 1, top_flow=20_000),
@@ -574,7 +629,9 @@ def fullest(rng: random.Random) -> Draft:
                                  Kd=rng.randint(0, 9), LAMBDA=rng.randint(0, 1_000_000))
                   for _ in range(MOST_REACHES)],
                  [Row(at, concentration(rng)) for at in range(MOST_ROWS)],
-                 [at * MOST_REACHES // MOST_GAUGES for at in range(1, MOST_GAUGES + 1)])
+                 [at * MOST_REACHES // MOST_GAUGES for at in range(1, MOST_GAUGES + 1)],
+                 [FlowRow(at * steps // MOST_FLOW_ROWS, rng.randint(0, 60_000))
+                  for at in range(1, MOST_FLOW_ROWS + 1)])
 
 
 def broad_rivers(rng: random.Random) -> Iterator[Case]:
@@ -586,6 +643,8 @@ def broad_rivers(rng: random.Random) -> Iterator[Case]:
     rows = [Row(0, 0), Row(10, HIGHEST), Row(MOST_STEPS // 2, 3), Row(MOST_STEPS, HIGHEST)]
     most = replace(most, rows=rows).with_header(interval=MOST_STEPS // 16)
     yield Case("100,000 steps", write(most), ACCEPTED)
+    flows = [(1, 0), (11, 1_000), (MOST_STEPS // 2, 250), (MOST_STEPS - 1, 900), (MOST_STEPS, 0)]
+    yield Case("100,000 steps, five flow rows", write(most.with_flows(*flows)), ACCEPTED)
 
 
 # Damaged sheets
@@ -599,14 +658,14 @@ def cut_sheets(draft: Draft) -> Iterator[Case]:
 
 
 def lengthened_sheets(rng: random.Random, draft: Draft) -> Iterator[Case]:
-    """Bytes after the last gauge, few and many; a wrong header does not come first."""
+    """Bytes after the last record, few and many; a wrong header does not come first."""
     sheet = write(draft)
     lengths = [length + more for length in (LONGEST_SHEET, BUFFER) for more in (-1, 0, 1)]
     for extra in (1, 2, 3, 4, 5, 8, 64, 1_000, *(length - len(sheet) for length in lengths), 200_000):
         for tail in (bytes(extra), rng.randbytes(extra), (sheet * (1 + extra // len(sheet)))[:extra]):
             yield Case(f"{extra} bytes added", sheet + tail, 4)
         yield Case(f"{extra} bytes added, dt 0", write(draft.with_header(dt=0)) + bytes(extra), 4)
-        yield Case(f"{extra} bytes added, another mark", b"OTR2" + sheet[len(MARK):] + bytes(extra), 1)
+        yield Case(f"{extra} bytes added, another mark", UNKNOWN_MARK + sheet[len(MARK):] + bytes(extra), 1)
 
 
 def longest_sheets(rng: random.Random) -> Iterator[Case]:
@@ -626,18 +685,18 @@ def longest_sheets(rng: random.Random) -> Iterator[Case]:
 
 def marked_sheets(rng: random.Random, draft: Draft) -> Iterator[Case]:
     """Another mark, whatever follows."""
-    rest = write(draft)[len(MARK):]
-    marks = [b"OTR0", b"OTR2", b"OTR3", b"OTR4", b"otr1", b"1RTO", b"OTRI", b"\0\0\0\0", b" OTR", b"OTR\n"]
-    marks += [MARK[:at] + bytes([MARK[at] ^ 1 << bit]) + MARK[at + 1:]
-              for at in range(len(MARK)) for bit in range(8)]
+    own, rest = draft.mark, write(draft)[len(MARK):]
+    marks = [b"OTR0", b"OTR3", b"OTR4", b"otr1", b"otr2", b"1RTO", b"2RTO", b"OTRI", b"\0\0\0\0", b" OTR", b"OTR\n"]
+    marks += [own[:at] + bytes([own[at] ^ 1 << bit]) + own[at + 1:]
+              for at in range(len(own)) for bit in range(8)]
     for mark in marks:
         yield Case(f"mark {mark!r}", mark + rest, 1)
         yield Case(f"mark {mark!r} alone", mark, 1)
         yield Case(f"mark {mark!r}, then anything", mark + rng.randbytes(rng.randint(0, 300)), 1)
     yield Case("nothing at all", b"", 1)
-    yield Case("the mark alone", MARK, 2)
+    yield Case("the mark alone", own, 2)
     for length in (4, 19, 20, 21, 24, 2_000):
-        yield Case(f"the mark and {length} zero bytes", MARK + bytes(length), 3 if length >= 24 else 2)
+        yield Case(f"the mark and {length} zero bytes", own + bytes(length), 3 if length >= 24 else 2)
         yield Case(f"{length} bytes of anything", rng.randbytes(length))
 
 
@@ -705,7 +764,8 @@ def disordered_sheets(draft: Draft) -> Iterator[Case]:
 
 
 def draft_fault(number: int, draft: Draft, at: int) -> Draft:
-    """A draft that breaks test 5 to 12, in that reach where the test has reaches."""
+    """A draft that breaks test 5 to 12 or 16, in that reach where the test has reaches."""
+    M = draft.header.M
     if number == 5:
         return draft.with_header(**(dict(dt=0), dict(dx=9), dict(top_flow=HIGHEST_FLOW + 1))[at])
     if number == 6:
@@ -713,10 +773,14 @@ def draft_fault(number: int, draft: Draft, at: int) -> Draft:
     if number == 7:
         return draft.with_reach(at, segments=MOST_SEGMENTS)
     if number == 8:
-        late = draft.rows[at]._replace(start=draft.header.M + 1)
+        late = draft.rows[at]._replace(start=M + 1)
         return replace(draft, rows=[*draft.rows[:at], late, *draft.rows[at + 1:]])
     if number == 9:
         return replace(draft, gauges=[*draft.gauges[:at], 0, *draft.gauges[at + 1:]])
+    if number == 16:
+        change = (dict(start=0), dict(start=M + 1), dict(top_flow=HIGHEST_FLOW + 1))[at]
+        wrong = draft.flow_rows[at]._replace(**change)
+        return replace(draft, flow_rows=[*draft.flow_rows[:at], wrong, *draft.flow_rows[at + 1:]])
     if number == 10:
         return draft.with_reach(at, qout=HIGHEST_FLOW)
     if number == 11:
@@ -725,19 +789,24 @@ def draft_fault(number: int, draft: Draft, at: int) -> Draft:
 
 
 def sheet_fault(number: int, sheet: bytes, draft: Draft, late: bool) -> bytes:
-    """A sheet that breaks test 1 to 4; `late` puts it in the gauges, else in the reaches."""
+    """A sheet that breaks test 1 to 4; `late` puts it in the last section, else in the reaches."""
     if number == 1:
-        return b"OTR2" + sheet[len(MARK):]
+        return UNKNOWN_MARK + sheet[len(MARK):]
     if number == 2:
         return sheet[:-1] if late else sheet[:offset(draft, "reach 2 D")]
     if number == 3:
-        return put(sheet, offset(draft, "count of gauges" if late else "count of reaches"), 0)
+        last = "count of gauges" if draft.flow_rows is None else "count of flow rows"
+        return put(sheet, offset(draft, last if late else "count of reaches"), 0)
     return sheet + bytes(4)
 
 
-def with_faults(numbers: list[int], at: dict[int, int], late: dict[int, bool]) -> bytes:
-    """The plain river with all of these faults at once."""
-    draft = plain()
+def tests_of(draft: Draft) -> list[int]:
+    """The numbers of the tests that a sheet goes through, in their order."""
+    return [number for number in ORDER if number != 16 or draft.flow_rows is not None]
+
+
+def with_faults(draft: Draft, numbers: list[int], at: dict[int, int], late: dict[int, bool]) -> bytes:
+    """The river with all of these faults at once."""
     for number in numbers:
         if number >= 5:
             draft = draft_fault(number, draft, at.get(number, 0))
@@ -748,31 +817,176 @@ def with_faults(numbers: list[int], at: dict[int, int], late: dict[int, bool]) -
     return sheet
 
 
-def faulty_pairs() -> Iterator[Case]:
-    """Every two tests broken at once, the lower-numbered one early and late in the river."""
-    for low in range(1, 13):
-        for high in range(low + 1, 13):
-            if (low, high) in ((2, 3), (2, 4)):
-                continue
-            for early, later in ((0, 2), (2, 0), (1, 1)):
-                at = {low: early, high: later}
-                late = {number: place == 2 for number, place in at.items()}
-                yield Case(f"{low} at {early} and {high} at {later}", with_faults([low, high], at, late), low)
+def faulty_pairs(draft: Draft) -> Iterator[Case]:
+    """Every two tests broken at once, the one that comes first early and late in the river."""
+    for low, high in combinations(tests_of(draft), 2):
+        if (low, high) in ((2, 3), (2, 4)):
+            continue
+        for early, later in ((0, 2), (2, 0), (1, 1)):
+            at = {low: early, high: later}
+            late = {number: place == 2 for number, place in at.items()}
+            yield Case(f"{low} at {early} and {high} at {later}", with_faults(draft, [low, high], at, late), low)
     for number, late in ((2, {2: False, 3: True}), (3, {2: True, 3: False})):
-        yield Case(f"2 and 3, {number} met first", with_faults([2, 3], {}, late), number)
+        yield Case(f"2 and 3, {number} met first", with_faults(draft, [2, 3], {}, late), number)
 
 
-def many_faults(rng: random.Random, count: int) -> Iterator[Case]:
-    """Two to six faults at once; the lowest number is the answer."""
+def many_faults(rng: random.Random, draft: Draft, count: int) -> Iterator[Case]:
+    """Two to six faults at once; the test that comes first is the answer."""
+    tests = tests_of(draft)
     for _ in range(count):
-        lowest = rng.randint(1, 11)
-        higher = range(lowest + 1, 13)
-        numbers = {lowest, *rng.sample(higher, min(len(higher), rng.randint(1, 5)))}
+        first = rng.randrange(len(tests) - 1)
+        later = tests[first + 1:]
+        numbers = {tests[first], *rng.sample(later, min(len(later), rng.randint(1, 5)))}
         if 2 in numbers:
             numbers -= {3, 4}           # a cut sheet has no bytes to follow, and decides 3 by its place
         at = {number: rng.randrange(3) for number in numbers}
         late = {number: rng.random() < 0.5 for number in numbers}
-        yield Case(f"faults {sorted(numbers)} at {at}", with_faults(sorted(numbers), at, late), lowest)
+        yield Case(f"faults {sorted(numbers)} at {at}", with_faults(draft, sorted(numbers), at, late), tests[first])
+
+
+# Flow rows
+
+
+def other_marks(draft: Draft) -> Iterator[Case]:
+    """Sheets with one section too many or too few for their mark."""
+    sheet = write(draft)
+    end = offset(draft, "count of flow rows")
+    yield Case("OTR1 with flow rows", MARK + sheet[len(MARK):], 4)
+    yield Case("OTR1 with flow rows, dt 0", MARK + write(draft.with_header(dt=0))[len(MARK):], 4)
+    yield Case("OTR1 with a count of flow rows alone", MARK + sheet[len(MARK):end + FIELD], 4)
+    yield Case("OTR1 of the same river", MARK + sheet[len(MARK):end], ACCEPTED)
+    yield Case("OTR2 without flow rows", sheet[:end], 2)
+    yield Case("OTR2 without flow rows, dt 0", write(draft.with_header(dt=0))[:end], 2)
+    yield Case("OTR2 without flow rows, bytes added", sheet[:end] + bytes(FIELD), 3)
+    yield Case("OTR3 with flow rows", UNKNOWN_MARK + sheet[len(MARK):], 1)
+
+
+def disordered_flows(draft: Draft) -> Iterator[Case]:
+    """Flow rows with each ground of 16, and with none."""
+    M = draft.header.M
+    for starts in ((0,), (0, 1), (M + 1,), (1, M + 1), (HIGHEST_FIELD,), (1, 1), (2, 1), (1, 3, 2), (1, 2, 2), (M, M),
+                   (1, 2, 3, 3, 5), (3, 1, 2), (2, 0), (1, 0, 2), (M, 1), (1, M, M + 1)):
+        rows = [(start, 20_000) for start in starts]
+        yield Case(f"flow rows start at {starts}", write(draft.with_flows(*rows)), 16)
+    for count in (1, 2, 3, M):
+        for at in range(count):
+            for figure in (HIGHEST_FLOW + 1, HIGHEST_FIELD):
+                rows = [(start, figure if start == at + 1 else 20_000) for start in range(1, count + 1)]
+                yield Case(f"flow row {at + 1} of {count} has {figure}", write(draft.with_flows(*rows)), 16)
+    for starts in ((1,), (M,), (1, M), tuple(range(1, M + 1)), (2, 3), (M - 1, M)):
+        rows = [(start, 10_000 * start) for start in starts]
+        yield Case(f"flow rows start at {starts}", write(draft.with_flows(*rows)), ACCEPTED, "brackets")
+
+
+def falling(top_flow: int, *flows: int) -> Draft:
+    """Test 10 wants 0, 46 and 91 at the top for its three segments, 11 allows 2,000; a flow row at each step."""
+    return slope(top_flow, 3).with_header(M=max(2, len(flows))).with_flows(*enumerate(flows, 1))
+
+
+def narrowing(top_flow: int, *flows: int) -> Draft:
+    """Test 11 allows flows of 900, 700, 400 and 200 in its four segments; a flow row at each step."""
+    return Draft(Header(dt=1, dx=10, M=max(2, len(flows)), interval=1, top_flow=top_flow),
+                 [BROOK_REACH._replace(D=D) for D in (50, 40, 30, 10)], [Row(0, 3_000)], [1, 4]
+                 ).with_flows(*enumerate(flows, 1))
+
+
+def filling(top_flow: int, *flows: int) -> Draft:
+    """Test 12 allows a flow of 333 in its one segment, 11 one of 1,000; a flow row at each step."""
+    return brook(3, top_flow, 3_000, max(2, len(flows))).with_flows(*enumerate(flows, 1))
+
+
+def halving(top_flow: int, *flows: int) -> Draft:
+    """Test 12 allows even flows in the first of its three segments, and up to 100 in the last; a row at each step.
+
+    With dt 1 and A x dx 2^29 every mL/s is half a part of e and of g: both halves of an odd flow go up.
+    """
+    half, reach = ONE_WHOLE // 2, BROOK_REACH._replace(A=2 ** 19, AS=1_000_000, D=1, ALPHA=HIGHEST_RATE)
+    tight = [reach._replace(LAMBDA=rate_for(half - flowing, 1)) for flowing in (1_024, 512 + 100 // 2)]
+    return Draft(Header(dt=1, dx=2 ** 10, M=max(2, len(flows)), interval=1, top_flow=top_flow),
+                 [tight[0], reach, tight[1]], [Row(0, HIGHEST)], [1, 3]).with_flows(*enumerate(flows, 1))
+
+
+class FlowFault(NamedTuple):
+    """A sheet that a test refuses for one of its flows, and the segment that it names."""
+
+    name: str
+    draft: Draft
+    number: int
+    segment: int
+
+
+def flow_faults() -> Iterator[FlowFault]:
+    """Tests 10 to 12 at fault with the top flow, with a row's, and with several: the first flow at fault decides."""
+    most = MOST_FLOW_ROWS
+    for number, river, good, bad, segment in (
+            (10, falling, 91, 90, 3), (10, falling, 91, 45, 2), (11, narrowing, 200, 201, 4),
+            (11, narrowing, 200, 401, 3), (12, filling, 333, 334, 1), (12, halving, 100, 99, 1),
+            (12, halving, 100, 102, 3)):
+        yield FlowFault(f"{number}: the top flow, {bad}", river(bad, good), number, segment)
+        for rows, at in ((1, 1), (2, 2), (5, 2), (most, 1), (most, 2), (most, most)):
+            flows = [bad if row == at else good for row in range(1, rows + 1)]
+            yield FlowFault(f"{number}: row {at} of {rows}, {bad}", river(good, *flows), number, segment)
+    for number, river, good, first, later, segment in (
+            (10, falling, 91, 90, 45, 3), (11, narrowing, 200, 201, 901, 4), (11, narrowing, 200, 401, 701, 3),
+            (12, halving, 100, 102, 99, 3)):
+        yield FlowFault(f"{number}: the top flow, then a row's", river(first, later), number, segment)
+        yield FlowFault(f"{number}: row 1, then row 2", river(good, first, later), number, segment)
+        yield FlowFault(f"{number}: row 63, then row 64", river(good, *[good] * (most - 2), first, later), number,
+                        segment)
+    for name, draft, number, segment in (
+            ("10 of row 2, 11 of the top flow", falling(2_001, 91, 90), 10, 3),
+            ("10 of row 64, 11 of row 1", falling(91, 2_001, *[91] * (most - 2), 90), 10, 3),
+            ("11 of row 2, 10 of none", falling(91, 91, 2_001), 11, 1),
+            ("11 of row 1, 12 of the top flow", filling(334, 1_001), 11, 1),
+            ("11 of row 64, 12 of row 1", filling(0, 334, *[0] * (most - 2), 1_001), 11, 1),
+            ("12 of row 2, 11 of none", filling(0, 1_000 // 3, 1_000), 12, 1)):
+        yield FlowFault(name, draft, number, segment)
+
+
+def flow_fault_cases() -> Iterator[Case]:
+    for fault in flow_faults():
+        yield Case(fault.name, write(fault.draft), fault.number)
+
+
+def flow_rivers() -> Iterator[Case]:
+    """Named rivers whose flow changes, at the ends of what the tests allow."""
+    def case(name: str, draft: Draft, exact: str = "brackets") -> Case:
+        return Case(name, write(draft), ACCEPTED, exact)
+
+    def twin(name: str, draft: Draft) -> Case:
+        """Rows that all have the top flow: the listing is that of the river without them."""
+        rows = [(start, draft.header.top_flow) for start in range(1, min(draft.header.M, MOST_FLOW_ROWS) + 1)]
+        return Case(f"rows with the top flow: {name}", write(draft.with_flows(*rows)), ACCEPTED, "brackets",
+                    twin=write(draft))
+
+    base = plain()
+    yield twin("plain", base)
+    yield twin("the listing", listing_draft())
+    yield twin("T10", two_segment_brook())
+    yield twin("one step", brook(dt=2, Q=1_000, U=3_001))
+    yield twin("64 steps", base.with_header(M=MOST_FLOW_ROWS, interval=7))
+    yield case("a row at step 1", base.with_flows((1, 90_000)))
+    yield case("a row at the last step", base.with_flows((6, 90_000)))
+    yield case("a row at the last step, which is the first", brook(2, 0, 3_001).with_flows((1, 1_000)), "fractions")
+    yield case("a row at every step", base.with_flows(*((start, 15_000 * start) for start in range(1, 7))))
+    yield case("a row behind the last line shown", base.with_header(interval=4).with_flows((5, 90_000)))
+    for river, flows in ((falling, (91, 2_000)), (narrowing, (200, 0)), (filling, (333, 0)), (halving, (100, 0))):
+        most = [flows[row % 2] for row in range(1, MOST_FLOW_ROWS + 1)]
+        yield case(f"64 rows, {river.__name__}", river(flows[0], *most))
+    U = [Row(0, 1), Row(1, 2), Row(2, 5), Row(3, HIGHEST), Row(4, HIGHEST - 1), Row(6, 8)]
+    full = one_reach(2, 10, 0, U, segments=2, start=7)
+    yield case("e from a half to one whole and back", full.with_flows((1, 1_000), (3, 0), (4, 1_000), (7, 1)),
+               "fractions")
+    wide = one_reach(100, 10_000, 0, U, segments=4, A=1_000_000, D=1_000_000, start=HIGHEST)
+    yield case("from no flow to the highest and back", wide.with_flows((2, HIGHEST_FLOW), (4, 0), (5, HIGHEST_FLOW)))
+    rising = one_reach(1, 10_000, 0, U, segments=4, A=1_000_000, D=1_000_000, qin=1_000)
+    yield case("a row's flow that rises to 100,000,000", rising.with_flows((1, 99_999_700)))
+    yield case("the highest figures", one_reach(
+        675, 358, 64_007, [Row(0, HIGHEST), Row(14, HIGHEST)], segments=10, D=160, A=143_216, AS=164, ALPHA=3_217,
+        qin=882_067, LAMHAT=1_407_407, RHO=102_925, Kd=1, CL=HIGHEST, CB=HIGHEST, start=HIGHEST
+        ).with_flows((1, 0), (2, 64_000), (5, 30_000), (9, 1)))
+    day = [(start, 20_000 + 1_000 * min(start, 60 - start)) for start in range(1, 60, 3)]
+    yield case("a day with snowmelt", base.with_header(M=60, interval=5).with_flows(*day))
 
 
 def work(sheet: bytes) -> int:
@@ -801,12 +1015,12 @@ def changed(rng: random.Random, kind: str, at: int, sheet: bytes) -> bytes:
     return sheet[:at]
 
 
-def changed_sheets(rng: random.Random, count: int, most: int = 20_000) -> Iterator[Case]:
+def changed_sheets(rng: random.Random, count: int, most: int = 20_000, draw: Drawer = draw_river) -> Iterator[Case]:
     """A random river's sheet with one change; one that raises M far is left out."""
     kinds = ("a bit", "a byte", "a byte", "a field", "a field", "a stretch lost", "a stretch doubled", "a cut")
     made = 0
     while made < count:
-        draft = good_river(rng, rng.randint(1, 6), rng.randint(1, 4))
+        draft = good_river(rng, rng.randint(1, 6), rng.randint(1, 4), draw)
         before = write(draft)
         kind, at = rng.choice(kinds), rng.randrange(len(before))
         sheet = changed(rng, kind, at, before)
@@ -815,12 +1029,12 @@ def changed_sheets(rng: random.Random, count: int, most: int = 20_000) -> Iterat
             yield Case(f"{kind} at {at}: {describe(draft)}", sheet)
 
 
-def paused_sheets(rng: random.Random) -> Iterator[Case]:
+def paused_sheets(rng: random.Random, draft: Draft) -> Iterator[Case]:
     """Sheets that arrive in pieces: the answer is that of the whole sheet."""
-    sheet = write(plain())
+    sheet = write(draft)
     for pauses in ((1,), (3,), (4,), (30,), (100, 101), (len(sheet) - 1,), (len(sheet),), (4, 24, 28, 200)):
         yield Case(f"pauses at {pauses}", sheet, ACCEPTED, "", pauses)
     yield Case("a byte added after a pause", sheet + b"\0", 4, "", (len(sheet),))
     yield Case("cut, after a pause", sheet[:-1], 2, "", (len(sheet) - 9,))
-    full = write(replace(fullest(rng), rows=[Row(0, 9)]).with_header(M=1, interval=1))
+    full = write(replace(fullest(rng), rows=[Row(0, 9)]).with_flows((1, 9_000)).with_header(M=1, interval=1))
     yield Case("a long sheet in pieces", full, ACCEPTED, "", (1_000, 4_096, 4_200))

@@ -23,7 +23,7 @@ class Signature(NamedTuple):
 
 
 NUMBERS = {"u32": "uint32_t ", "usize": "size_t ", "&mut u32": "uint32_t *", "&mut u64": "uint64_t *",
-           "&mut [u32; 7]": "struct yumbaqel_loaded *"}
+           "&mut [u32; 9]": "struct yumbaqel_loaded *"}
 SLICES = {"&[u8]": "const uint8_t *", "&[u32]": "const uint32_t *", "&mut [u32]": "uint32_t *",
           "&mut [u64]": "uint64_t *", "&mut [Reach]": "struct yumbaqel_reach *"}
 

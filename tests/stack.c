@@ -22,6 +22,7 @@ static size_t length;
 static struct yumbaqel_reach reaches[YUMBAQEL_MOST_REACHES];
 static uint32_t words[YUMBAQEL_WORDS(YUMBAQEL_MOST_SEGMENTS)];
 static uint64_t wide_words[YUMBAQEL_WIDE_WORDS(YUMBAQEL_MOST_SEGMENTS)];
+static uint32_t set_words[YUMBAQEL_SET_WORDS(YUMBAQEL_MOST_SEGMENTS)];
 static uint32_t row_words[YUMBAQEL_ROW_WORDS(YUMBAQEL_MOST_ROWS)];
 static struct yumbaqel_river river;
 static struct yumbaqel_refusal told;
@@ -31,6 +32,11 @@ static uint32_t u;
 static void load(void)
 {
     told = yumbaqel_river_load(&river, sheet, length, reaches, YUMBAQEL_MOST_REACHES);
+}
+
+static void sets(void)
+{
+    told = yumbaqel_river_sets(&river, reaches, YUMBAQEL_MOST_REACHES);
 }
 
 static void start(void)
@@ -61,6 +67,11 @@ static void rows(void)
 static void gauge(void)
 {
     u = yumbaqel_river_gauge(&river, 0);
+}
+
+static void flow(void)
+{
+    u = yumbaqel_flow(sheet, length, 1);
 }
 
 static void dt(void)
@@ -105,6 +116,7 @@ int main(void)
 {
     length = fread(sheet, 1, sizeof sheet, stdin);
     yumbaqel_river_lend(&river, YUMBAQEL_MOST_SEGMENTS, words, wide_words);
+    yumbaqel_river_lend_set(&river, YUMBAQEL_MOST_SEGMENTS, set_words);
     yumbaqel_river_lend_rows(&river, YUMBAQEL_MOST_ROWS, row_words);
     printf("stated %d\n", YUMBAQEL_STACK);
     measure("load", load);
@@ -112,12 +124,15 @@ int main(void)
         return 0;
     measure("rows", rows);
     measure("gauge", gauge);
+    measure("flow", flow);
     measure("dt", dt);
     measure("dx", dx);
     measure("version", version);
     measure("upstream", upstream);
     measure("start", start);
+    sets();
     measure("step", step);
+    sets();
     measure("step", step);
     measure("report", report);
     return 0;

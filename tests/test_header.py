@@ -1,10 +1,10 @@
-"""Holds the header for C to the library, to the model and to document 01.
+"""Holds the header for C to the library, to the model and to the documents.
 
     python3 tests/test_header.py PATH_TO_ARCHIVE
 
 tests/header.c, compiled against include/yumbaqel.h, prints every constant, enum number and field and puts every
 helper to the library; what it prints must be what the model gives.  Limits, numbers and kinds are also put to the
-library itself, declarations are compared with the library's source, and the refusals' comments with document 01.
+library itself, declarations are compared with the library's source, and the refusals' comments with the documents.
 Then wrong headers are made by single edits, and each of them must be caught in the same way.
 The exit status is 0 only when the header agrees and every wrong one is caught.
 """
@@ -31,15 +31,17 @@ import model
 import sheets
 import stack
 from calls import Answer, Caller, Run, Tally
-from library import COLUMNS, KINDS, ROOT, STRICT, BuildFault, Library, compiled, shared_object
-from mirror import LOADED, LOADED_LISTS, MACROS, REACH, ROW_LISTS, STATE_LISTS, Mirror, commands, distinct_draft
-from model import HIGHEST, MOST_REACHES, MOST_ROWS, MOST_SEGMENTS, MOST_STEPS, Row
+from library import KINDS, ROOT, STRICT, BuildFault, Library, compiled, shared_object
+from mirror import (LOADED, MACROS, NO_FLOW, OTHER_LISTS, REACH, ROW_LISTS, SETS, STATE_LISTS, Mirror, commands,
+                    distinct_draft, with_flow_rows)
+from model import COLUMNS, HIGHEST, MOST_FLOW_ROWS, MOST_REACHES, MOST_ROWS, MOST_SEGMENTS, MOST_STEPS, SET, Row
 from signatures import declaration, recorder_source, signatures
 from wrong_headers import Header, Wrong, tokens
 
 HEADER = ROOT / "include" / "yumbaqel.h"
 PROGRAM = ROOT / "tests" / "header.c"
 DOCUMENT = ROOT / "docs" / "01-scope.md"
+REQUESTS = ROOT / "docs" / "02-change-requests.md"
 PREFIX = "YUMBAQEL_"
 MOST_SHOWN = 10                     # faults or survivors described
 SHOWN_BY_NAMES = {"figure", "enum", "field"}    # the wrong headers that are nearly all caught so
@@ -62,17 +64,18 @@ def struct(name: str, *fields: tuple[str, type]) -> type[ctypes.Structure]:
 LIST = struct("yumbaqel_list", ("at", ctypes.POINTER(U32)), ("length", SIZE))
 WIDE_LIST = struct("yumbaqel_wide_list", ("at", ctypes.POINTER(ctypes.c_uint64)), ("length", SIZE))
 LOADED_STRUCT = struct("yumbaqel_loaded", *((name, U32) for name in LOADED))
+SET_STRUCT = struct("yumbaqel_set", *((name, LIST) for name in SET), ("flow", U32))
 STRUCTS = (
-    struct("yumbaqel_reach", *((name, U32) for name in REACH)), LOADED_STRUCT, LIST, WIDE_LIST,
-    struct("yumbaqel_river", *((name, LIST) for name in (*LOADED_LISTS, *STATE_LISTS)), ("upstream", U32),
-           ("done", U32), ("p", WIDE_LIST), ("y", WIDE_LIST), ("loaded", LOADED_STRUCT),
+    struct("yumbaqel_reach", *((name, U32) for name in REACH)), LOADED_STRUCT, LIST, WIDE_LIST, SET_STRUCT,
+    struct("yumbaqel_river", ("sets", SET_STRUCT * len(SETS)), *((name, LIST) for name in (*OTHER_LISTS, *STATE_LISTS)),
+           ("upstream", U32), ("done", U32), ("p", WIDE_LIST), ("y", WIDE_LIST), ("loaded", LOADED_STRUCT),
            ("sheet", ctypes.POINTER(ctypes.c_uint8)), ("sheet_length", SIZE), *((name, LIST) for name in ROW_LISTS),
            ("rows", U32)),
     struct("yumbaqel_refusal", ("number", U32), ("kind", U32), ("place", U32)),
     struct("yumbaqel_figures", ("channel", U32), ("storage", U32), ("sediment", ctypes.c_uint64)),
 )
 REFUSALS = ("ACCEPTED", "MARK", "SHORT_SHEET", "COUNT", "LONG_SHEET", "HEADER", "REACH_FIELD", "SEGMENTS",
-            "BOUNDARY_ROW", "GAUGE", "FLOW", "FACE", "SUM", "SHORT_LIST", "FIGURE", "STEPS_DONE")
+            "BOUNDARY_ROW", "GAUGE", "FLOW", "FACE", "SUM", "SHORT_LIST", "FIGURE", "STEPS_DONE", "FLOW_ROW")
 KIND_NAMES = {"NOTHING": None, "REACH": "reach", "SEGMENT": "segment", "ROW": "row"}
 TRIED = 1 + 2                       # the figure that a macro is tried on
 
@@ -81,8 +84,8 @@ def constants(library: Library, used: int) -> dict[str, int]:
     """By the model; the version is the library's, and the stack the next power of two above what was measured."""
     return {"VERSION": library.call("version"), "SCALE": model.ONE_WHOLE, "HIGHEST": HIGHEST,
             "MOST_SEGMENTS": MOST_SEGMENTS, "MOST_STEPS": MOST_STEPS, "MOST_REACHES": MOST_REACHES,
-            "MOST_ROWS": MOST_ROWS, "MOST_GAUGES": model.MOST_GAUGES, "LONGEST_SHEET": model.LONGEST_SHEET,
-            "STACK": 1 << used.bit_length()}
+            "MOST_ROWS": MOST_ROWS, "MOST_GAUGES": model.MOST_GAUGES, "MOST_FLOW_ROWS": MOST_FLOW_ROWS,
+            "NO_FLOW": NO_FLOW, "LONGEST_SHEET": model.LONGEST_SHEET, "STACK": 1 << used.bit_length()}
 
 
 def wanted_names(right: dict[str, int]) -> list[str]:
@@ -119,14 +122,14 @@ class Situations:
         self.library = library
         self.good = distinct_draft()
 
-    def load(self, given: sheets.Draft | bytes, room: int = MOST_SEGMENTS + 2) -> Caller:
+    def load(self, given: sheets.Draft | bytes, room: int = MOST_SEGMENTS + 2, row: int = 0) -> Caller:
         sheet = given if isinstance(given, bytes) else sheets.write(given)
         caller = Caller(self.library, random.Random(1), Tally())
-        caller.load(sheet, [room] * len(COLUMNS), MOST_REACHES + 2, "a situation")
+        caller.load(sheet, [room] * len(COLUMNS), MOST_REACHES + 2, "a situation", row)
         return caller
 
-    def told(self, given: sheets.Draft | bytes, room: int = MOST_SEGMENTS + 2) -> Answer:
-        return answer_of(self.load(given, room))
+    def told(self, given: sheets.Draft | bytes, room: int = MOST_SEGMENTS + 2, row: int = 0) -> Answer:
+        return answer_of(self.load(given, room, row))
 
     def refusals(self) -> dict[str, Answer]:
         """What the library answers in the situation that each name of a refusal speaks of."""
@@ -139,7 +142,7 @@ class Situations:
             run.step(run.n, 0, good.header.M, {})
         return {
             "ACCEPTED": self.told(good),
-            "MARK": self.told(b"OTR2" + sheet[len(model.MARK):]),
+            "MARK": self.told(sheets.UNKNOWN_MARK + sheet[len(model.MARK):]),
             "SHORT_SHEET": self.told(sheet[:-1]),
             "COUNT": self.told(replace(good, rows=[])),
             "LONG_SHEET": self.told(sheet + b"\0"),
@@ -154,6 +157,7 @@ class Situations:
             "SHORT_LIST": self.told(good, good.segments - 1),
             "FIGURE": figure,
             "STEPS_DONE": answer_of(run),
+            "FLOW_ROW": self.told(good.with_flows((1, 0), (1, 0))),
         }
 
     def limit_holds(self, name: str, figure: int, used: int) -> bool:
@@ -166,11 +170,14 @@ class Situations:
             "MOST_REACHES": lambda c: sheets.still_reaches(*[1] * c),
             "MOST_ROWS": lambda c: replace(many.with_header(M=MOST_STEPS), rows=[Row(at, 0) for at in range(c)]),
             "MOST_GAUGES": lambda c: replace(many, gauges=list(range(1, c + 1))),
+            "MOST_FLOW_ROWS": lambda c: many.with_header(M=MOST_STEPS).with_flows(*((at, 0) for at in range(1, c + 1))),
         }.get(name)
         if taken is not None:
             return self.told(taken(figure))[0] == 0 and self.told(taken(figure + 1))[0] != 0
+        longest = sheets.write(sheets.fullest(random.Random(1)))
+        if name == "NO_FLOW":       # the first that no sheet has
+            return self.told(longest, row=figure)[0] == 13 and self.told(longest, row=figure - 1)[0] == 0
         if name == "LONGEST_SHEET":
-            longest = sheets.write(sheets.fullest(random.Random(1)))
             return len(longest) == figure and self.told(longest)[0] == 0 and self.told(longest + b"\0")[0] == 4
         if name == "SCALE":         # T6: e is one whole
             return self.load(sheets.brook(dt=2, Q=1_000)).shelf.buffers["e"].content()[0] == figure
@@ -195,11 +202,12 @@ class Bench:
         self.recorder = compiled(folder / "librecorder.so", "-shared", "-fPIC", "-O1", "-Wall", "-Werror",
                                  str(folder / "recorder.c"), "-Wl,--no-as-needed", self.shared)
         draft = distinct_draft()
-        self.sheets = sheets.write(draft), sheets.write(draft.with_reach(1, CB=HIGHEST + 1))
+        self.sheets = tuple(map(sheets.write, (draft, draft.with_reach(1, CB=HIGHEST + 1), with_flow_rows(draft))))
         self.commands = commands(draft)
         self.script = "".join(f"{command}\n" for command in self.commands).encode()
-        for name, sheet in zip(("good", "bad"), self.sheets):
-            (folder / name).write_bytes(sheet)
+        self.files = [folder / name for name in ("good", "bad", "flows")]
+        for file, sheet in zip(self.files, self.sheets):
+            file.write_bytes(sheet)
         self.wanted = self.wanted_names = ""
         self.declarations = {name: tokens(declaration(each)) for name, each in self.signatures.items()}
 
@@ -221,8 +229,7 @@ class Bench:
 
     def output(self, program: str) -> str:
         """What it prints, the lines of names and layout sorted; nothing where it does not end well."""
-        run = subprocess.run([program, str(self.folder / "good"), str(self.folder / "bad")], input=self.script,
-                             capture_output=True, timeout=60)
+        run = subprocess.run([program, *map(str, self.files)], input=self.script, capture_output=True, timeout=60)
         lines = run.stdout.decode(errors="replace").splitlines(keepends=True)
         front = next((at for at, line in enumerate(lines) if line.startswith("lend")), len(lines))
         return "".join((*sorted(lines[:front]), *lines[front:])) if run.returncode == 0 else ""
@@ -279,14 +286,18 @@ def refusal_comments(header: Header) -> dict[int, str]:
 
 
 def document_refusals() -> dict[int, str]:
+    """Document 01's, and the one of document 02's first request."""
     text = DOCUMENT.read_text()
     plain = text[text.index("## Refusals"):text.index("## Promises")].replace("×", "x")
-    return {int(number): words for number, words in re.findall(r"^(\d+)\. (.*)$", plain, re.M)}
+    found = {int(number): words for number, words in re.findall(r"^(\d+)\. (.*)$", plain, re.M)}
+    number, words = re.search(r"^1\. .*Errors: (\d+), (.*?), after \d+;", REQUESTS.read_text(), re.M).groups()
+    return {**found, int(number): f"{words[0].upper()}{words[1:]}."}
 
 
 NAMED = (                           # slips that a test of the calls alone does not see, by name
     ("half as many gauges", rf"(MOST_GAUGES) {model.MOST_GAUGES}\b", rf"\1 {model.MOST_GAUGES // 2}"),
     ("two refusal numbers exchanged", r"(FLOW = )10(.*FACE = )11", r"\g<1>11\g<2>10"),
+    ("the two sets of a step exchanged", r"(YUMBAQEL_SET\()old(_set\), YUMBAQEL_SET\()new", r"\1new\2old"),
     ("area and area2 exchanged", r"(uint32_t )area;(.*?uint32_t )area2;", r"\1area2;\2area;"),
     ("storage and sediment exchanged in a macro",
      r"(\(r\)->storage.at, \(r\)->storage.length), (\(r\)->sediment.at, \(r\)->sediment.length)", r"\2, \1"),
@@ -330,7 +341,7 @@ def hold_header(bench: Bench, header: Header, report: Report) -> None:
     said, words = refusal_comments(header), document_refusals()
     report.hold(set(said) == set(words) == set(range(1, len(REFUSALS))), "a refusal has no comment")
     for number, comment in said.items():
-        report.hold(words[number].startswith(comment), f"refusal {number} is not in document 01's words: {comment}")
+        report.hold(words[number].startswith(comment), f"refusal {number} is not in the documents' words: {comment}")
     builds = {"C99": ("gcc", "-std=c99"), "optimised": ("gcc", "-std=c99", "-O2"),
               "names": ("gcc", "-std=c99", "-DNAMES")}
     if shutil.which("g++"):

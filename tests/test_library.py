@@ -2,9 +2,9 @@
 
     python3 tests/test_library.py PATH_TO_ARCHIVE [--seed N] [--long [--minutes N]]
 
-Loadings, starts, steps, reports and lookups of U, accepted and refused, are put to the library and to the
-model.  After each call every byte that was lent is compared, and the figures are held to the exact river fed the
-same calls: at most 6 x n, sediment 6 x n x Kd.  Then the examples are run, power failures and all, and the stack
+Loadings, starts, steps, reports and lookups of U and of the flow, accepted and refused, are put to the library and
+to the model.  After each call every byte that was lent is compared, and the figures are held to the exact river fed
+the same calls: at most 6 x n, sediment 6 x n x Kd.  Then the examples are run, power failures and all, and the stack
 that the calls take is measured.
 The exit status is 0 only when every group ran, showed every answer that it must and agreed.
 """
@@ -27,9 +27,10 @@ import exact
 import model
 import sheets
 import stack
-from calls import ACCEPTED, Answer, Caller, Difference, Run, Tally, row_count_at
-from library import CALLS, COLUMNS, INCLUDE, READINGS, ROOT, STRICT, BuildFault, Library, compiled, shared_object
-from model import HIGHEST, HIGHEST_KD, MOST_REACHES, MOST_ROWS, MOST_SEGMENTS, MOST_STEPS, Row
+from calls import ACCEPTED, LISTS, Answer, Caller, Change, Difference, Run, Tally
+from library import CALLS, INCLUDE, OLD, READINGS, ROOT, STRICT, BuildFault, Library, compiled, shared_object
+from model import (COLUMNS, HIGHEST, HIGHEST_KD, MOST_FLOW_ROWS, MOST_REACHES, MOST_ROWS, MOST_SEGMENTS, MOST_STEPS,
+                   ONE_WHOLE, SET, Row, flow_row_count_at, row_count_at)
 from sheets import HIGHEST_FIELD
 
 MOST_SHOWN = 5                      # differences described
@@ -66,18 +67,95 @@ def any_lengths(rng: random.Random, sheet: bytes) -> tuple[list[int], int]:
     return lengths, max(0, min(records, MOST_REACHES + 2))
 
 
+def any_row(rng: random.Random, sheet: bytes) -> int:
+    """A flow row's number: nearly always one that the sheet has, or 0."""
+    count = 0
+    if model.has_flow_rows(sheet):
+        count = min(model.field_at(sheet, flow_row_count_at(sheet)), MOST_FLOW_ROWS)
+    if rng.random() < 0.85:
+        return rng.choice((0, count, rng.randint(0, count)))
+    return rng.choice((count + 1, MOST_FLOW_ROWS + 1, 2 ** 31, HIGHEST_FIELD))
+
+
+def any_steps(rng: random.Random, sheet: bytes) -> Iterator[int]:
+    """Steps to ask the flow at: 0 and the last, and each row's with its neighbours."""
+    yield from (0, 1, HIGHEST_FIELD, rng.randint(0, HIGHEST_FIELD))
+    begin = flow_row_count_at(sheet) + model.FIELD
+    for at in rng.sample(range(MOST_FLOW_ROWS), 3) + [0]:
+        start = model.field_at(sheet, begin + 2 * model.FIELD * at)
+        yield from (max(0, start - 1), start, min(start + 1, HIGHEST_FIELD))
+
+
 def loading(case: sheets.Case) -> Trial:
-    """One loading, then the rows, the gauges, dt and dx of the same bytes, accepted or not."""
+    """One loading, then the rows, the gauges, the flow at steps, dt and dx of the same bytes, accepted or not."""
     def trial(library: Library, rng: random.Random, tally: Tally) -> None:
         caller = Caller(library, rng, tally)
         lengths, records = any_lengths(rng, case.sheet)
-        caller.load(case.sheet, lengths, records, case.name)
+        caller.load(case.sheet, lengths, records, case.name, any_row(rng, case.sheet))
+        for j in any_steps(rng, case.sheet):
+            caller.flow(j)
         count = min(model.field_at(case.sheet, row_count_at(case.sheet)), MOST_ROWS)
         caller.rows(*(max(0, count + rng.choice((0, 0, 0, 1, -1))) for _ in range(2)))
         for j in (0, rng.randrange(40), rng.choice((HIGHEST_FIELD, 2 ** 63, 2 ** 64 - 1))):
             caller.gauge(j)
         caller.header_field("dt")
         caller.header_field("dx")
+    return trial
+
+
+def every_set(case: sheets.Case) -> Trial:
+    """A loading of each flow of a sheet, in a large river of some, one row past them, and the flow at every step."""
+    def trial(library: Library, rng: random.Random, tally: Tally) -> None:
+        caller = Caller(library, rng, tally)
+        found = model.read_sheet(case.sheet)
+        n, rows = model.segment_count(found.reaches), len(found.flow_rows)
+        numbers = range(rows + 1) if n * rows < MOST_SEGMENTS else rng.sample(range(rows + 1), 3)
+        for row in (*numbers, rows + 1, HIGHEST_FIELD):
+            lengths = [n + rng.randrange(3) for _ in COLUMNS]
+            caller.load(case.sheet, lengths, len(found.reaches), case.name, row)
+        for j in range(min(found.header.M, 100) + 3):
+            caller.flow(j)
+    return trial
+
+
+def wrong_pairs(case: sheets.Case) -> Trial:
+    """A step with each list of its old set too short, each number of either set too high, and both at once."""
+    def trial(library: Library, rng: random.Random, tally: Tally) -> None:
+        run = Run(library, rng, tally, case.sheet, case.exact)
+        run.start(run.n, 5, {})
+        run.begin(5)
+        run.lend_next_pair()
+        for name in LISTS:
+            run.step(run.n, 7, MOST_STEPS, {name: run.n - 1})
+            run.step(run.n, HIGHEST + 1, MOST_STEPS, {name: run.n - 1})
+
+        def changed(*changes: Change) -> None:
+            before = {change.name: list(run.shelf.content[change.name]) for change in changes}
+            for change in changes:
+                content = list(run.shelf.content[change.name])
+                content[change.at] = change.figure
+                run.shelf.put(change.name, content)
+            if run.step(run.n, 7, MOST_STEPS, {}):
+                raise Difference(f"accepted with {changes}")
+            for name, content in before.items():
+                run.shelf.put(name, content)
+
+        over, last = ONE_WHOLE + 1, run.n - 1
+        for name, old_name in zip(SET, OLD):
+            for at in {0, last, rng.randrange(run.n)}:
+                changed(Change(old_name, at, over))
+                changed(Change(old_name, at, HIGHEST_FIELD))
+            lower, higher = sorted(rng.choices(range(run.n), k=2))
+            changed(Change(old_name, lower, over), Change(name, higher, over))
+            changed(Change(old_name, higher, over), Change(name, lower, over))
+            changed(Change(old_name, lower, over), Change("Kd", higher, HIGHEST_KD + 1))
+            changed(Change(old_name, higher, over), Change("C", lower, HIGHEST + 1))
+            changed(Change(old_name, higher, over), Change("upstream", 0, HIGHEST + 1))
+        for name in ("g0", "g"):
+            changed(Change(name, last, 1))
+        if not run.step(run.n, 7, MOST_STEPS, {}):
+            raise Difference("a step with its pair is refused")
+        run.move(7)
     return trial
 
 
@@ -88,23 +166,22 @@ def run_of(case: sheets.Case, calls: int) -> Trial:
 
 
 def own_river(case: sheets.Case) -> Trial:
-    """The sheet's own river, as a controller runs it: U from its rows, its gauges, M steps and one more."""
+    """The sheet's own river, as a controller runs it: U and flows from its rows, its gauges, M steps and one more."""
     def trial(library: Library, rng: random.Random, tally: Tally) -> None:
         run = Run(library, rng, tally, case.sheet, case.exact)
-        found = model.read_sheet(case.sheet)
-        starts, concentrations = (list(each) for each in zip(*found.rows))
+        starts, concentrations = (list(each) for each in zip(*run.found.rows))
         if not run.rows(len(starts), len(starts)):
             raise Difference("the rows of a good river are refused")
         u = run.upstream(starts, concentrations, run.steps, 0)
+        run.lend_pair(run.flow(0), run.flow(0))
         run.start(run.n, u, {})
-        run.exact = exact.exact_river(run.kind, run.river, u)
+        run.begin(u)
         for j in range(1, run.steps + 2):
             u = run.upstream(starts, concentrations, run.steps, j)
+            run.lend_pair(run.flow(j - 1), run.flow(j))
             if run.step(run.n, u, run.steps, {}):
-                run.exact.step(u)
-                run.moves += 1
-                run.hold()
-            for at in range(len(found.gauges)):
+                run.move(u)
+            for at in range(len(run.found.gauges)):
                 run.report(run.n, run.gauge(at), {})
         if run.moves != run.steps:
             raise Difference(f"{run.moves} steps made of {run.steps}")
@@ -143,12 +220,33 @@ def cases(rng: random.Random) -> Iterator[sheets.Case]:
     yield from sheets.counted_sheets(sheets.plain())
     yield from rng.sample(list(sheets.end_of_range_sheets(sheets.plain())), 150)
     yield from sheets.disordered_sheets(sheets.plain())
-    yield from sheets.faulty_pairs()
-    yield from sheets.many_faults(rng, 100)
+    yield from sheets.faulty_pairs(sheets.plain())
+    yield from sheets.many_faults(rng, sheets.plain(), 100)
     yield from sheets.changed_sheets(rng, 150)
     yield from sheets.unsifted_rivers(rng, 150)
     yield sheets.Case("the longest sheet", sheets.write(sheets.fullest(rng)))
     yield from (sheets.Case(f"{length} random bytes", rng.randbytes(length)) for length in range(0, 120, 9))
+
+
+def flow_cases(rng: random.Random) -> Iterator[sheets.Case]:
+    """Sheets with flow rows, of every kind, for single loadings."""
+    draft, draw = sheets.plain_flows(), sheets.draw_flow_river
+    yield from sheets.flow_rivers()
+    yield from sheets.flow_fault_cases()
+    yield from sheets.disordered_flows(draft)
+    yield from sheets.other_marks(draft)
+    yield from rng.sample(list(sheets.cut_sheets(draft)), 90)
+    yield from islice(sheets.lengthened_sheets(rng, draft), 20)
+    yield from islice(sheets.marked_sheets(rng, draft), 20)
+    yield from sheets.counted_sheets(draft)
+    yield from rng.sample(list(sheets.end_of_range_sheets(draft)), 150)
+    yield from sheets.disordered_sheets(draft)
+    yield from sheets.faulty_pairs(draft)
+    yield from sheets.many_faults(rng, draft, 100)
+    yield from sheets.changed_sheets(rng, 150, draw=draw)
+    yield from sheets.unsifted_rivers(rng, 150, draw)
+    yield from (sheets.Case(f"OTR2, {length} random bytes", model.FLOW_MARK + rng.randbytes(length))
+                for length in range(0, 120, 9))
 
 
 class Group(NamedTuple):
@@ -160,6 +258,7 @@ class Group(NamedTuple):
     exact: bool = False             # figures are held to the exact river
 
 
+CASE_ANSWERS = {"rows": {ACCEPTED, (13, None)}, **dict.fromkeys(("gauge", "flow", "dt", "dx"), {ACCEPTED})}
 SHEET_ANSWERS = {ACCEPTED, *((number, None) for number in (1, 2, 3, 4, 5, 7, 13)), (6, "reach"), (8, "row"),
                  (9, "row"), (10, "segment"), (11, "segment"), (12, "segment")}
 RUN_ANSWERS = {
@@ -168,18 +267,29 @@ RUN_ANSWERS = {
     "step": {ACCEPTED, (13, None), (14, "segment"), (14, None), (15, None)},
     "report": {ACCEPTED, (13, None), (14, "segment"), (14, None)},
 }
-OWN_ANSWERS = {"load": {ACCEPTED}, "rows": {ACCEPTED}, "gauge": {ACCEPTED}, "upstream": {ACCEPTED},
-               "start": {ACCEPTED}, "step": {ACCEPTED, (15, None)}, "report": {ACCEPTED}}
+OWN_ANSWERS = {"step": {ACCEPTED, (15, None)},
+               **dict.fromkeys(("load", "rows", "gauge", "upstream", "flow", "start", "report"), {ACCEPTED})}
+LARGE_ANSWERS = {"load": {ACCEPTED}, "start": {ACCEPTED}, "step": {ACCEPTED}}
+FLOWS = sheets.draw_flow_river
 
 GROUPS = (
-    Group("loadings of every kind", lambda rng: map(loading, cases(rng)),
-          {"load": SHEET_ANSWERS, "rows": {ACCEPTED, (13, None)}, "gauge": {ACCEPTED}, "dt": {ACCEPTED},
-           "dx": {ACCEPTED}}),
+    Group("loadings of every kind", lambda rng: map(loading, cases(rng)), {"load": SHEET_ANSWERS, **CASE_ANSWERS}),
+    Group("loadings of sheets with flow rows", lambda rng: map(loading, flow_cases(rng)),
+          {"load": SHEET_ANSWERS | {(16, "row")}, **CASE_ANSWERS}),
+    Group("every flow's set", lambda rng: map(every_set, chain(
+        sheets.flow_rivers(), sheets.rivers(rng, 15, 400, FLOWS), sheets.large_rivers(rng, 1, 70, FLOWS),
+        sheets.small_rivers(rng, 5))), {"load": {ACCEPTED, (13, None)}, "flow": {ACCEPTED}}),
     Group("lookups of U", lambda rng: (lookup for _ in range(400)),
           {"upstream": {ACCEPTED, (3, None), (8, "row")}}),
     Group("the sheets' own rivers",
           lambda rng: map(own_river, chain(sheets.small_rivers(rng, 15), sheets.rivers(rng, 15, 400))),
           OWN_ANSWERS, True),
+    Group("the sheets' own rivers, with flow rows",
+          lambda rng: map(own_river, chain(sheets.flow_rivers(), sheets.small_rivers(rng, 15, FLOWS),
+                                           sheets.rivers(rng, 15, 400, FLOWS))), OWN_ANSWERS, True),
+    Group("wrong pairs of sets",
+          lambda rng: map(wrong_pairs, chain(sheets.small_rivers(rng, 5, FLOWS), sheets.rivers(rng, 3, 400, FLOWS))),
+          {"step": {ACCEPTED, (13, None), (14, "segment")}}, True),
     Group("calls of every kind, in fractions",
           lambda rng: (run_of(each, 40) for each in sheets.small_rivers(rng, 100)), RUN_ANSWERS, True),
     Group("calls of every kind, between bounds",
@@ -189,8 +299,17 @@ GROUPS = (
           RUN_ANSWERS, True),
     Group("figures at the highest", lambda rng: (run_of(each, 40) for each in sheets.highest_rivers(rng, 60)),
           RUN_ANSWERS, True),
-    Group("the largest rivers", lambda rng: (run_of(each, 12) for each in sheets.large_rivers(rng, 3)),
-          {"load": {ACCEPTED}, "start": {ACCEPTED}, "step": {ACCEPTED}}, True),
+    Group("flow rows, in fractions",
+          lambda rng: (run_of(each, 40) for each in sheets.small_rivers(rng, 60, FLOWS)), RUN_ANSWERS, True),
+    Group("flow rows, between bounds",
+          lambda rng: (run_of(each, 60) for each in sheets.rivers(rng, 30, 400, FLOWS)), RUN_ANSWERS, True),
+    Group("flow rows, half-step sums at one whole",
+          lambda rng: (run_of(each, 40) for each in sheets.tight_rivers(rng, 25, FLOWS) if each.exact),
+          RUN_ANSWERS, True),
+    Group("flow rows, figures at the highest",
+          lambda rng: (run_of(each, 40) for each in sheets.highest_rivers(rng, 30, FLOWS)), RUN_ANSWERS, True),
+    Group("the largest rivers", lambda rng: (run_of(each, 12) for each in chain(
+        sheets.large_rivers(rng, 3), sheets.large_rivers(rng, 2, 8, FLOWS))), LARGE_ANSWERS, True),
 )
 
 
@@ -236,6 +355,12 @@ def pulse() -> sheets.Draft:
     return replace(draft, rows=rows).with_header(M=60, interval=1)
 
 
+def melting() -> sheets.Draft:
+    """The same while the flow rises and falls again, past the end of the spill."""
+    flows = [(10, 30_000), (15, 45_000), (20, 60_000), (40, 30_000), (60, 8_000)]
+    return pulse().with_flows(*flows)
+
+
 def longest() -> bytes:
     """A sheet that is accepted and as long as a sheet can be."""
     sheet = sheets.write(sheets.fullest(random.Random(1)))
@@ -248,7 +373,8 @@ def example_sheets() -> list[bytes]:
     """Accepted and refused ones; the longest, and that one with a byte more and with many."""
     good, fullest = sheets.write(pulse()), longest()
     return [good, good[:-1], good + b"\0", sheets.write(pulse().with_reach(1, Kd=HIGHEST_KD + 1)),
-            sheets.write(pulse().with_reach(2, D=0)), fullest, fullest + b"\0", fullest + bytes(1_000)]
+            sheets.write(pulse().with_reach(2, D=0)), sheets.write(melting()),
+            sheets.write(melting().with_flows((0, 1))), fullest, fullest + b"\0", fullest + bytes(1_000)]
 
 
 def refused_line(refusal: model.Refusal) -> str:
@@ -276,25 +402,27 @@ def copied(state: model.State) -> model.State:
 
 
 def ahead_lines(sheet: bytes, gauge: int, limit: int, most: int) -> str:
-    """What examples/ahead.c prints, by the model: a copy of the state runs on with U as it is."""
+    """What examples/ahead.c prints, by the model: a copy of the state runs on, U as it is, through the flow rows."""
     try:
         found = model.read_sheet(sheet)
-        river = model.river_of(found)
+        rivers = model.rivers_of(found)
     except model.Refusal as refusal:
         return refused_line(refusal)
-    n, at = len(river), found.gauges[gauge - 1] - 1
-    lists = model.Lists(n)
-    lists.fill(river)
+    n, at = len(rivers[0]), found.gauges[gauge - 1] - 1
+    sets = [model.Lists(n) for _ in rivers]
+    for lists, river in zip(sets, rivers):
+        lists.fill(river)
     starts, concentrations = (list(each) for each in zip(*found.rows))
     begun = model.State.of_length(n)
-    model.start(lists, n, begun, model.upstream(starts, concentrations, found.header.M, 0))
+    model.start(sets[0], n, begun, model.upstream(starts, concentrations, found.header.M, 0))
     lines = []
     for state in chain((begun,), (after.state for after in model.run(sheet))):
         if state.count % found.header.interval:
             continue
         copy = copied(state)
         while copy.C[at] <= limit and copy.count - state.count < most and copy.count < MOST_STEPS:
-            model.step(lists, n, copy, [0] * n, [0] * n, copy.U, MOST_STEPS)
+            pair = (sets[model.flow_in_force(sheet, copy.count + more)] for more in (0, 1))
+            model.step(*pair, n, copy, [0] * n, [0] * n, copy.U, MOST_STEPS)
         taken = copy.count - state.count
         if copy.C[at] > limit:
             lines.append(f"step {state.count}: above in {taken} steps, {taken * found.header.dt} s\n")
@@ -338,15 +466,18 @@ def run_gate(archive: str, folder: Path, total: Tally) -> None:
     """It prints what the model says, from a file and from a pipe."""
     gate = Example("gate", archive, folder)
     seen = set()
-    for sheet, gauge, limit in chain(product(example_sheets()[:5], (1, 2, 3), (2_000, 100_000, 880_000, HIGHEST)),
-                                     product(example_sheets()[5:], (1, 3), (HIGHEST // 2,))):
+    for sheet, gauge, limit in chain(product(example_sheets()[:-3], (1, 2, 3), (2_000, 100_000, 880_000, HIGHEST)),
+                                     product(example_sheets()[-3:], (1, 3), (HIGHEST // 2,))):
         wanted = gate_lines(sheet, gauge, limit)
         for piped in (False, True):
             gate.compare(gate.run(sheet, gauge, limit, piped=piped), wanted, f"gauge {gauge}, limit {limit}")
-        seen |= {word for word in ("shut", "open", "refused 4\n", "refused 6 reach 2\n") if word in wanted}
+        seen |= {word for word in ("shut", "open", "refused 4\n", "refused 6 reach 2\n", "refused 16 row 1\n")
+                 if word in wanted}
     for gauge in (0, 4):
         gate.compare(gate.run(sheets.write(pulse()), gauge, 1), "", f"gauge {gauge}, which there is not")
-    gate.hold(len(seen) == 4, f"shows too little: {seen}")
+    moves = [gate_lines(sheets.write(draft), 1, 100_000) for draft in (pulse(), melting())]
+    gate.hold(moves[0] != moves[1], "flow rows do not show")
+    gate.hold(len(seen) == 5, f"shows too little: {seen}")
     gate.close(total)
 
 
@@ -354,8 +485,8 @@ def run_ahead(archive: str, folder: Path, total: Tally) -> None:
     """It prints what the model says: the copy runs on, past the sheet's M too and up to 100,000; the river stays."""
     ahead = Example("ahead", archive, folder)
     seen = set()
-    tried = [*product(example_sheets()[:5], (1, 3), (2_000, 100_000), (20,)),
-             *product(example_sheets()[5:], (2,), (HIGHEST // 2,), (0, 3)),
+    tried = [*product(example_sheets()[:-3], (1, 3), (2_000, 100_000), (20,)),
+             *product(example_sheets()[-3:], (2,), (HIGHEST // 2,), (0, 3)),
              (sheets.write(sheets.brook(dt=1, Q=500, U=7, M=1)), 1, HIGHEST, 2 * MOST_STEPS)]
     for sheet, gauge, limit, most in tried:
         wanted = ahead_lines(sheet, gauge, limit, most)
@@ -381,7 +512,7 @@ def run_reset(archive: str, folder: Path, total: Tally) -> None:
         wanted = refused_line(refusal) if refusal else model.listing(sheet).decode()
         reset.compare(listed(sheet), wanted, "without a failure")
 
-    draft = sheets.plain().with_header(interval=1)
+    draft = sheets.plain_flows().with_header(interval=1)
     sheet, words = sheets.write(draft), 3 + 3 * draft.segments + 1
     whole = model.listing(sheet).decode()
     lines, gauges, writes = whole.splitlines(keepends=True), len(draft.gauges), words * (draft.header.M + 1)

@@ -33,7 +33,7 @@ from sheets import ACCEPTED, Case
 AT_ONCE = 2                         # programs run side by side
 MOST_SHOWN = 3                      # differences described in each group
 MOST_DIFFERENCES = 20               # after which a group is given up
-VECTORS = Path(__file__).parent / "vectors"
+VECTORS = Path(__file__).parent / "vectors"     # of document 01, with folders for the requests of document 02
 
 
 class Outcome(NamedTuple):
@@ -77,6 +77,8 @@ def try_case(path: str, case: Case) -> Outcome:
         listing = printed(path, case.sheet, case.pauses)
         if listing != wanted:
             faults.append(first_difference(listing, wanted))
+        if case.twin and not wanted == printed(path, case.twin) == model.listing(case.twin):
+            faults.append("its twin has another listing")
         if case.exact and number == ACCEPTED and listing.startswith(model.HEADING.encode()):
             held, largest = held_to_exact(case.sheet, listing, case.exact)
             if largest > exact.ALLOWED:
@@ -100,7 +102,9 @@ class Group(NamedTuple):
 
 GOOD = {ACCEPTED}
 REFUSALS = set(range(1, 13))
-PLAIN = sheets.plain()
+FLOW_REFUSALS = REFUSALS | {16}
+PLAIN, FLOWS = sheets.plain(), sheets.plain_flows()
+DRAW_FLOWS = sheets.draw_flow_river
 
 GROUPS = (
     Group("the document's bench", lambda rng: sheets.bench_cases(), 14, GOOD | {6, 7, 10, 11, 12}, exact=True),
@@ -113,10 +117,10 @@ GROUPS = (
     Group("fields at the ends of their ranges", lambda rng: sheets.end_of_range_sheets(PLAIN), 400,
           GOOD | REFUSALS - {1, 2, 3, 4}),
     Group("rows and gauges out of order", lambda rng: sheets.disordered_sheets(PLAIN), 30, GOOD | {8, 9}),
-    Group("two faults at once", lambda rng: sheets.faulty_pairs(), 190, REFUSALS - {12}),
-    Group("several faults at once", lambda rng: sheets.many_faults(rng, 200), 200, REFUSALS - {12},
+    Group("two faults at once", lambda rng: sheets.faulty_pairs(PLAIN), 190, REFUSALS - {12}),
+    Group("several faults at once", lambda rng: sheets.many_faults(rng, PLAIN, 200), 200, REFUSALS - {12},
           endless=True),
-    Group("sheets in pieces", lambda rng: sheets.paused_sheets(rng), 11, GOOD | {2, 4}),
+    Group("sheets in pieces", lambda rng: sheets.paused_sheets(rng, PLAIN), 11, GOOD | {2, 4}),
     Group("changed sheets", lambda rng: sheets.changed_sheets(rng, 400), 400, GOOD | {2, 3, 5, 6},
           endless=True),
     Group("rivers with wild fields", lambda rng: sheets.unsifted_rivers(rng, 300), 300, GOOD | {10, 11, 12},
@@ -128,7 +132,37 @@ GROUPS = (
     Group("figures at the highest", lambda rng: sheets.highest_rivers(rng, 120), 120, GOOD, True, True),
     Group("large rivers", lambda rng: sheets.large_rivers(rng, 5), 5, GOOD, True, True),
     Group("many steps", lambda rng: sheets.long_rivers(rng, 4), 4, GOOD, True, True),
-    Group("the broadest sheets", lambda rng: sheets.broad_rivers(rng), 2, GOOD),
+    Group("the broadest sheets", lambda rng: sheets.broad_rivers(rng), 3, GOOD),
+    # sheets with flow rows
+    Group("rivers whose flow changes", lambda rng: sheets.flow_rivers(), 19, GOOD, exact=True),
+    Group("flows at fault", lambda rng: sheets.flow_fault_cases(), 65, {10, 11, 12}),
+    Group("flow rows out of order", lambda rng: sheets.disordered_flows(FLOWS), 40, GOOD | {16}, exact=True),
+    Group("marks and sections that do not fit", lambda rng: sheets.other_marks(FLOWS), 8, GOOD | {1, 2, 3, 4}),
+    Group("flow rows: sheets cut short", lambda rng: sheets.cut_sheets(FLOWS), 280, {1, 2}),
+    Group("flow rows: sheets with bytes added", lambda rng: sheets.lengthened_sheets(rng, FLOWS), 70, {1, 4}),
+    Group("flow rows: other marks", lambda rng: sheets.marked_sheets(rng, FLOWS), 130, {1, 2, 3}),
+    Group("flow rows: other counts", lambda rng: sheets.counted_sheets(FLOWS), 200, {2, 3, 4}),
+    Group("flow rows: fields at the ends of their ranges", lambda rng: sheets.end_of_range_sheets(FLOWS), 450,
+          GOOD | FLOW_REFUSALS - {1, 2, 3, 4}),
+    Group("flow rows: rows and gauges out of order", lambda rng: sheets.disordered_sheets(FLOWS), 30, GOOD | {8, 9}),
+    Group("flow rows: two faults at once", lambda rng: sheets.faulty_pairs(FLOWS), 230, FLOW_REFUSALS - {12}),
+    Group("flow rows: several faults at once", lambda rng: sheets.many_faults(rng, FLOWS, 200), 200,
+          FLOW_REFUSALS - {12}, endless=True),
+    Group("flow rows: sheets in pieces", lambda rng: sheets.paused_sheets(rng, FLOWS), 11, GOOD | {2, 4}),
+    Group("flow rows: changed sheets", lambda rng: sheets.changed_sheets(rng, 400, draw=DRAW_FLOWS), 400,
+          GOOD | {2, 3, 5, 6, 16}, endless=True),
+    Group("flow rows: rivers with wild fields", lambda rng: sheets.unsifted_rivers(rng, 300, DRAW_FLOWS), 300,
+          GOOD | {10, 11, 12}, endless=True),
+    Group("flow rows: small rivers, in fractions", lambda rng: sheets.small_rivers(rng, 120, DRAW_FLOWS), 120, GOOD,
+          True, True),
+    Group("flow rows: rivers of all shapes", lambda rng: sheets.rivers(rng, 120, draw=DRAW_FLOWS), 120, GOOD, True,
+          True),
+    Group("flow rows: half-step sums at one whole", lambda rng: sheets.tight_rivers(rng, 60, DRAW_FLOWS), 80,
+          GOOD | {12}, True, True),
+    Group("flow rows: figures at the highest", lambda rng: sheets.highest_rivers(rng, 80, DRAW_FLOWS), 80, GOOD, True,
+          True),
+    Group("flow rows: large rivers", lambda rng: sheets.large_rivers(rng, 2, draw=DRAW_FLOWS), 2, GOOD, True, True),
+    Group("flow rows: many steps", lambda rng: sheets.long_rivers(rng, 3, draw=DRAW_FLOWS), 3, GOOD, True, True),
 )
 
 
@@ -218,7 +252,7 @@ def run_group(pool: ProcessPoolExecutor, path: str, group: Group, rng: random.Ra
 
 
 def run_checks(total: Tally) -> None:
-    """The document's bench figures and tests 13 to 15, of the model."""
+    """The documents' bench figures, flow rows and tests 13 to 15, of the model."""
     faults = 0
     count = 0
     for check in bench.checks():
@@ -236,12 +270,12 @@ def run_checks(total: Tally) -> None:
 
 def run_vectors(path: str, total: Tally) -> None:
     """The fixed vectors beside this file."""
-    found = check_vectors.vectors(VECTORS)
+    found = [vector for folder in (VECTORS, VECTORS / "request-01") for vector in check_vectors.vectors(folder)]
     faults = list(check_vectors.differences(path, found))
     for fault in faults[:MOST_SHOWN]:
         say(f"  {fault}")
     answers = {number_of(vector.listing) for vector in found}
-    if answers != REFUSALS | GOOD:
+    if answers != FLOW_REFUSALS | GOOD:
         faults.append("answers missing")
         say(f"  the vectors show only the answers {sorted(answers)}")
     total.checks += len(found)
@@ -309,7 +343,7 @@ def main() -> int:
         f"{total.sheets} sheets ({accepted} accepted, {total.sheets - accepted} refused); "
         f"{total.held} figures within {total.per_step:.3f} per step of the exact river, "
         f"{exact.ALLOWED} allowed")
-    unseen = (REFUSALS | GOOD) - set(total.answers)
+    unseen = (FLOW_REFUSALS | GOOD) - set(total.answers)
     if total.differences or unseen or total.held == 0 or total.groups < len(GROUPS) + 3:
         say(f"FAILED: {total.differences} differences, answers never seen {sorted(unseen)}")
         return 1

@@ -22,7 +22,7 @@ import time
 from collections.abc import Callable, Iterator
 from dataclasses import replace
 from fractions import Fraction
-from itertools import islice
+from itertools import accumulate, islice
 from pathlib import Path
 from typing import Any, NamedTuple
 from xml.etree import ElementTree
@@ -30,11 +30,12 @@ from xml.etree import ElementTree
 import float_river
 import model
 import sheets
+import snowmelt
 import texts
 import uvas
-from model import Header, Reach, Row
+from model import FlowRow, Header, Reach, Row
 from program import ProgramFault, first_difference, printed, program_path
-from sheets import BROOK_REACH, Draft, brook, plain, still_reaches, write
+from sheets import BROOK_REACH, Draft, brook, draw_flow_river, plain, plain_flows, still_reaches, write
 
 import command                      # the tools' folder is on the path since `model` was imported
 import curves
@@ -50,6 +51,7 @@ SHEET, CURVES, PROVE, GATE_COST = (ROOT / "tools" / name
 FLOAT_RIVER = ROOT / "tests" / "float_river.py"
 RIVER = ROOT / "target" / "bin" / "river"
 MOST_SHOWN = 10
+DRAFTS = uvas.EXAMPLES | snowmelt.EXAMPLES          # what the examples must hold
 SVG = "{http://www.w3.org/2000/svg}"
 
 
@@ -131,17 +133,21 @@ def any_fields(rng: random.Random) -> bytes:
         return [rng.choice((0, 1, rng.randrange(100), rng.randrange(2 ** 32), 2 ** 32 - 1)) for _ in range(count)]
 
     reaches, rows = rng.choice((1, 2, 5, model.MOST_REACHES)), rng.choice((1, 3, 9, model.MOST_ROWS))
-    gauges = rng.choice((1, 5, model.MOST_GAUGES))
-    return write(Draft(Header(*figures(len(Header._fields))),
-                       [Reach(*figures(len(Reach._fields))) for _ in range(reaches)],
-                       [Row(*figures(len(Row._fields))) for _ in range(rows)], figures(gauges)))
+    gauges, flows = rng.choice((1, 5, model.MOST_GAUGES)), rng.choice((0, 1, 3, model.MOST_FLOW_ROWS))
+    draft = Draft(Header(*figures(len(Header._fields))),
+                  [Reach(*figures(len(Reach._fields))) for _ in range(reaches)],
+                  [Row(*figures(len(Row._fields))) for _ in range(rows)], figures(gauges))
+    return write(draft.with_flows(*(figures(len(FlowRow._fields)) for _ in range(flows))) if flows else draft)
 
 
 def sheets_that_pass_4(rng: random.Random) -> Iterator[bytes]:
     """Sheets of every kind that have their mark, counts and length right."""
     groups = (sheets.bench_cases(), sheets.extreme_rivers(), islice(sheets.end_of_range_sheets(plain()), 0, None, 2),
-              sheets.disordered_sheets(plain()), sheets.unsifted_rivers(rng, 60), sheets.changed_sheets(rng, 60))
-    made = [*(write(sheets.good_river(rng, rng.randint(1, 40), rng.randint(1, 30))) for _ in range(60)),
+              sheets.disordered_sheets(plain()), sheets.unsifted_rivers(rng, 60), sheets.changed_sheets(rng, 60),
+              sheets.flow_rivers(), sheets.flow_fault_cases(), sheets.disordered_flows(plain_flows()),
+              sheets.unsifted_rivers(rng, 60, draw_flow_river))
+    made = [*(write(sheets.good_river(rng, rng.randint(1, 40), rng.randint(1, 30), draw))
+              for draw in [sheets.draw_river] * 60 + [draw_flow_river] * 30),
             *(any_fields(rng) for _ in range(30)), write(sheets.fullest(rng)),
             *(case.sheet for cases in groups for case in cases)]
     for sheet in made:
@@ -161,7 +167,7 @@ def round_trip_checks() -> Iterator[Check]:
         yield Check("refused or not", {mistake.number for mistake in made.mistakes},
                     {refusal.number} if refusal else set())
         yield Check("nothing rounded", made.rounded, [])
-    yield Check("sheets enough", count > 400, True)
+    yield Check("sheets enough", count > 600, True)
 
 
 def command_checks() -> Iterator[Check]:
@@ -172,6 +178,10 @@ def command_checks() -> Iterator[Check]:
         yield Check("read", tool(SHEET, "read", sheet, "-o", text).returncode, 0)
         yield Check("make", tool(SHEET, "make", text, "-o", again).returncode, 0)
         yield Check("the same file", again.read_bytes(), sheet.read_bytes())
+        flows = tool(SHEET, "make", "-", "-o", "-", given=texts.FLOW_TEXT.encode())
+        yield Check("make, flow rows", (flows.returncode, flows.stdout[:4], flows.stderr), (0, b"OTR2", b""))
+        back = tool(SHEET, "read", "-", given=flows.stdout)
+        yield Check("read, flow rows", tool(SHEET, "make", "-", "-o", "-", given=back.stdout).stdout, flows.stdout)
         piped = tool(SHEET, "make", "-", "-o", "-", given=text.read_bytes())
         yield Check("make, piped", piped.stdout, sheet.read_bytes())
         said = tool(SHEET, "explain", sheet)
@@ -263,7 +273,7 @@ def stream_checks(sheet: Path, text: Path, listing: Path) -> Iterator[Check]:
     ran = tool(CURVES, listing, "--sheet", "-", "-o", "-", given=sheet.read_bytes())
     yield Check("curves.py: - for sheet and picture", (ran.returncode, ran.stdout, ran.stderr),
                 (0, picture.read_bytes(), b""))
-    ran = tool(CURVES, listing, "--sheet", "-", given=b"OTR2")
+    ran = tool(CURVES, listing, "--sheet", "-", given=b"OTR3")
     yield Check("curves.py: - is no sheet", (ran.returncode, ran.stderr),
                 (1, b"standard input is refused 1; tools/sheet.py explain says why\n"))
     ran = tool(CURVES, "--sheet", "-", given=sheet.read_bytes())
@@ -282,6 +292,10 @@ def mistake_checks() -> Iterator[Check]:
     good = sheet_text.make(texts.TEXT)
     yield Check("the text itself", (good.mistakes, good.rounded), ([], []))
     yield Check("its sheet", good.sheet, write(two_plain_reaches()))
+    flows = write(two_plain_reaches().with_flows((1, 25_000), (4, 8_000)))
+    for name, text in (("from", texts.FLOW_TEXT), ("step", texts.OTHER_FLOWS)):
+        made = sheet_text.make(text)
+        yield Check(f"flow rows by {name}", (made.sheet, made.mistakes, made.rounded), (flows, [], []))
     yield Check("the report's names", sheet_text.make(texts.REPORT_NAMES).sheet, good.sheet)
     yield Check("lengths and times", sheet_text.make(texts.OTHER_WAYS).sheet, good.sheet)
     feet = model.read_sheet(sheet_text.make(texts.FEET).sheet)
@@ -321,10 +335,14 @@ def any_text_checks() -> Iterator[Check]:
 def refused_sheets() -> Iterator[bytes]:
     """Sheets of every refusal, with places early and late."""
     rng = random.Random("refusals")
-    base = plain()
-    for cases in (sheets.faulty_pairs(), sheets.cut_sheets(base), sheets.counted_sheets(base),
+    base, flows = plain(), plain_flows()
+    for cases in (sheets.faulty_pairs(base), sheets.cut_sheets(base), sheets.counted_sheets(base),
                   sheets.end_of_range_sheets(base), sheets.disordered_sheets(base), sheets.extreme_rivers(),
-                  islice(sheets.marked_sheets(rng, base), 0, None, 9), sheets.unsifted_rivers(rng, 60)):
+                  islice(sheets.marked_sheets(rng, base), 0, None, 9), sheets.unsifted_rivers(rng, 60),
+                  sheets.faulty_pairs(flows), sheets.cut_sheets(flows), sheets.counted_sheets(flows),
+                  islice(sheets.end_of_range_sheets(flows), 0, None, 3), sheets.disordered_flows(flows),
+                  sheets.other_marks(flows), sheets.flow_fault_cases(),
+                  sheets.unsifted_rivers(rng, 60, draw_flow_river)):
         for case in cases:
             if model.answer(case.sheet) is not None:
                 yield case.sheet
@@ -335,7 +353,7 @@ def told_of_sheets() -> Iterator[tuple[bytes, str, tuple[str, ...]]]:
     base = plain()
     sheet = write(base)
     rows = sheets.offset(base, "row 1 start")
-    yield b"OTR2" + sheet[4:], "refused 1", ("starts with b'OTR2', not with OTR1",)
+    yield b"OTR3" + sheet[4:], "refused 1", ("starts with b'OTR3', not with OTR1 or OTR2",)
     yield b"", "refused 1", ("has 0 bytes",)
     yield sheet[:99], "refused 2", ("ends after 99 bytes, inside dispersion D of reach 2",)
     yield sheet[:rows - 4], "refused 2", ("before the count of boundary rows",)
@@ -362,12 +380,51 @@ def told_of_sheets() -> Iterator[tuple[bytes, str, tuple[str, ...]]]:
            ("T is 1.5 of one whole, 536,870,912 parts too many (e 1.5, g 0,", "a step of at most 2 s"))
     yield (sheet, "accepted", ("3 reaches, 9 segments of 10 m: 90 m", "6 steps of 10 s", "T is at most",
                                "gauges in segment 1 (10 m)"))
+    yield from told_of_flows()
+
+
+def told_of_flows() -> Iterator[tuple[bytes, str, tuple[str, ...]]]:
+    """The same of sheets with flow rows."""
+    base = plain_flows()
+    sheet, count = write(base), sheets.offset(base, "count of flow rows")
+    yield sheet[:count], "refused 2", ("ends after 264 bytes, before the count of flow rows",)
+    yield sheet[:count + 9], "refused 2", ("ends after 273 bytes, inside top flow of flow row 1",)
+    yield sheet[:-1], "refused 2", ("inside top flow of flow row 3",)
+    yield (write(base.with_flows()), "refused 3",
+           ("the count of flow rows is 0", "document 02 allows 1 to 64 flow rows"))
+    yield sheet + bytes(5), "refused 4", ("5 bytes follow the last flow row, which ends at byte 292",
+                                          "raise the count of flow rows if they are flow rows")
+    yield model.MARK + sheet[4:], "refused 4", ("28 bytes follow the last gauge, which ends at byte 264",
+                                                "a sheet with flow rows is marked OTR2")
+    yield (write(base.with_flows((0, 5), (7, 5))), "refused 16, flow row 1",
+           ("flow row 1 starts at step 0", "a flow row starts at step 1 at the earliest",
+            "flow row 2 starts at step 7, after the last step, 6"))
+    yield (write(base.with_flows((1, 5), (1, 10 ** 8 + 1))), "refused 16, flow row 2",
+           ("flow row 2 starts at step 1, which is not after flow row 1, at step 1",
+            "the top flow of flow row 2 is 100,000,001 mL/s", "0 to 100,000,000 mL/s"))
+    yield (write(sheets.falling(91, 91, 90)), "refused 10, segment 3",
+           ("with flow row 2, from step 2 (0.00555556 h) on, in segment 3 (reach 1) the flow is -1 mL/s",
+            "or raise the top flow of flow row 2 by 1 mL/s"))
+    yield (write(sheets.falling(90, 91, 90)), "refused 10, segment 3",
+           ("  in segment 3 (reach 1) the flow is -1 mL/s", "or raise the flow at the top by 1 mL/s"))
+    yield (write(sheets.narrowing(200, 200, 401)), "refused 11, segment 3",
+           ("with flow row 2, from step 2 (0.000555556 h) on, in segment 3 (reach 3) Q × dx, 401 × 10 = 4,010 cm4/s,",
+            "3,000 + 1,000 = 4,000 cm4/s", "D of at least 31 cm2/s in reach 3"))
+    yield (write(sheets.filling(0, 334)), "refused 12, segment 1",
+           ("with flow row 1, from step 1 (0.000833333 h) on, in segment 1 (reach 1) T is 1.0005 of one whole",
+            "with a step of at most 2 s the whole river passes"))
+    yield (sheet, "accepted", (
+        "3 flow rows, 3 boundary rows; gauges in segment 1 (10 m)", "of AD own + AD below (segment 9, flow row 3)",
+        "  flow         from step          at the top    along the river (10)    Q × dx (11)          T (12)\n",
+        "  top flow     0 (0 h)            20,000 mL/s   20,000 to 20,160 mL/s   0.2016 (segment 9)   0.08",
+        "  flow row 3   6 (0.0166667 h)    60,000 mL/s   60,000 to 60,160 mL/s   0.6016 (segment 9)   0.08"))
 
 
 LONGEST_DX = "the longest dx for which the whole river passes 11, all else unchanged: "
 LONGEST_DT = "the longest dt for which the whole river passes 12, all else unchanged: "
 WITH_THAT_DX = "the longest dt for which the whole river passes 12 with that dx: "
 NO_RIVER = "the longest dx and dt: not to be told while the reaches or the flow at the top are out of range"
+NO_FLOWS = NO_RIVER.replace("the flow at", "a flow at")
 
 
 def told_of_longest() -> Iterator[tuple[str, Draft, list[str]]]:
@@ -390,24 +447,34 @@ def told_of_longest() -> Iterator[tuple[str, Draft, list[str]]]:
     for number, draft in ((5, base.with_header(top_flow=model.HIGHEST_FLOW + 1)), (6, base.with_reach(1, A=0)),
                           (7, still_reaches(1_024, 1))):
         yield f"refused {number}", draft, [NO_RIVER]
+    # with flow rows: the lowest flow and the highest decide
+    flows = [(1, 100), (2, 50)]
+    yield ("accepted", brook(dt=2, Q=0, M=2).with_flows(*flows), [f"{LONGEST_DX}100 cm (1 m)", f"{LONGEST_DT}3 s"])
+    yield ("refused 12", brook(dt=4, Q=0, M=2).with_flows(*flows), [f"{LONGEST_DX}100 cm (1 m)", f"{LONGEST_DT}3 s"])
+    yield ("refused 11", brook(dt=1, Q=0, M=2).with_flows(*flows).with_header(dx=101),
+           [f"{LONGEST_DX}100 cm (1 m)", f"{LONGEST_DT}203 s", f"{WITH_THAT_DX}200 s"])
+    yield ("refused 10", sheets.falling(2_000, 90), [f"{LONGEST_DX}990 cm (9.9 m)",
+           f"{LONGEST_DT}not to be told while dx or a flow is out of range", f"{WITH_THAT_DX}980 s"])
+    yield "refused 16", brook(dt=2, Q=0).with_flows((1, 10 ** 8 + 1)), [NO_FLOWS]
 
 
 def passes_11(draft: Draft, dx: int) -> bool:
-    """Document 01's tests 10 and 11 once more, from its words."""
+    """Document 01's tests 10 and 11 once more, from its words, for the top flow and every row's."""
     own = [reach for reach in draft.reaches for _ in range(reach.segments)]
-    gain = 0
-    for at, reach in enumerate(own):
-        Q = draft.header.top_flow + gain * dx // 100_000
-        below = own[min(at + 1, len(own) - 1)]
-        if not 0 <= Q <= 100_000_000 or Q * dx > reach.A * reach.D + below.A * below.D:
-            return False
-        gain += reach.qin - reach.qout
+    for top in (draft.header.top_flow, *(row.top_flow for row in draft.flow_rows or ())):
+        gain = 0
+        for at, reach in enumerate(own):
+            Q = top + gain * dx // 100_000
+            below = own[min(at + 1, len(own) - 1)]
+            if not 0 <= Q <= 100_000_000 or Q * dx > reach.A * reach.D + below.A * below.D:
+                return False
+            gain += reach.qin - reach.qout
     return True
 
 
 def passes_12(found: model.Sheet, dt: int) -> bool:
     try:
-        model.river_of(replace(found, header=found.header._replace(dt=dt)))
+        model.rivers_of(replace(found, header=found.header._replace(dt=dt)))
     except model.Refusal:
         return False
     return True
@@ -430,8 +497,8 @@ def longest_checks() -> Iterator[Check]:
             yield Check(f"longest: {first}, nothing", "the longest" in explain.words(sheet), False)
     rng = random.Random("longest")
     rivers = [passes_long_but_not_shorter(), passes_long_but_not_shorter().with_header(top_flow=999)]
-    for _ in range(12):
-        draft = sheets.good_river(rng, rng.randint(1, 5), 3)
+    for draw in [sheets.draw_river] * 12 + [draw_flow_river] * 6:
+        draft = sheets.good_river(rng, rng.randint(1, 5), 3, draw)
         changes = dict(qin=rng.choice((0, 10, 3_000, 10 ** 7)), qout=rng.choice((0, 20, 3_000, 10 ** 5)),
                        D=rng.choice((0, 1, 900, 10 ** 6)))
         rivers.append(draft.with_reach(rng.randrange(len(draft.reaches)), **changes))
@@ -443,7 +510,8 @@ def longest_checks() -> Iterator[Check]:
                 [True] * 3)
     yield Check("shorter segments need not pass", [passes_11(rivers[0], dx) for dx in (5_000, 10_000)],
                 [False, True])
-    for draft in (brook(dt=1, Q=700, D=40), brook(dt=1, Q=0, D=0, LAMHAT2=3_333_333, ALPHA=1_234_567)):
+    for draft in (brook(dt=1, Q=700, D=40), brook(dt=1, Q=0, D=0, LAMHAT2=3_333_333, ALPHA=1_234_567),
+                  brook(dt=1, Q=100, M=2).with_flows((1, 900), (2, 0))):
         found = model.read_sheet(write(draft))
         passing = [dt for dt in range(1, 3_601) if passes_12(found, dt)]
         yield Check("the longest dt", (explain.longest_step(found), len(passing)), (max(passing), max(passing)))
@@ -461,7 +529,7 @@ def explain_checks() -> Iterator[Check]:
         yield Check("number and place", [(fault.number, fault.place) for fault in found[:1]],
                     [(refusal.number, refusal.place)])
         yield Check("a fact and a remedy", all(fault.fact and fault.remedy for fault in found), True)
-    yield Check("every refusal", seen, set(range(1, 13)))
+    yield Check("every refusal", seen, {*range(1, 13), 16})
     for sheet, first, wanted in told_of_sheets():
         words = explain.words(sheet)
         missing = [line for line in wanted if line not in words]
@@ -482,10 +550,11 @@ def remedy_checks() -> Iterator[Check]:
                  "or a dispersion D of at least 61 cm2/s in reach 1 would do here"])
     yield Check("11: that dispersion moves it on", model.answer(write(two.with_reach(0, D=61))).place,
                 ("segment", 2))
+    yield Check("10: the flow row advised", [number(sheets.falling(91, 91, flow)) for flow in (90, 91)], [10, 0])
     rng = random.Random("remedies")
     tried = 0
-    while tried < 15:
-        draft = sheets.good_river(rng, rng.randint(1, 8), 3)
+    while tried < 25:
+        draft = sheets.good_river(rng, rng.randint(1, 8), 3, draw_flow_river if tried % 2 else sheets.draw_river)
         longest = explain.longest_step(model.read_sheet(write(draft)))
         if longest < 3_600:
             tried += 1
@@ -724,22 +793,26 @@ def stored(name: str) -> str:
 def shortened(draft: Draft, steps: int, interval: int) -> bytes:
     """The sheet with fewer steps; rows that start later fall away."""
     rows = [row for row in draft.rows if row.start <= steps]
-    return write(replace(draft, rows=rows).with_header(M=steps, interval=interval))
+    flow_rows = [row for row in draft.flow_rows or () if row.start <= steps] or None
+    return write(replace(draft, rows=rows, flow_rows=flow_rows).with_header(M=steps, interval=interval))
 
 
 def early_injection(draft: Draft) -> bytes:
-    """The rows brought forward, so that a short run sees the injection; a gauge in each kind of reach."""
+    """The rows brought forward, so that a short run sees the injection; gauges at the ends of reaches."""
     rows = [row._replace(start=4 * at) for at, row in enumerate(draft.rows)]
-    return shortened(replace(draft, rows=rows, gauges=[1, 2, 38, 106, 619]), 30, 10)
+    flow_rows = draft.flow_rows and [row._replace(start=at) for at, row in enumerate(draft.flow_rows, 1)]
+    first, second, *_ = accumulate(reach.segments for reach in draft.reaches)
+    gauges = [1, 2, first, second + 1, draft.segments]
+    return shortened(replace(draft, rows=rows, gauges=gauges, flow_rows=flow_rows), 30, 10)
 
 
 def example_checks() -> Iterator[Check]:
-    yield Check("the examples", {path.stem for path in EXAMPLES.glob("*.otr")}, set(uvas.EXAMPLES))
-    for name, draft in uvas.EXAMPLES.items():
+    yield Check("the examples", {path.stem for path in EXAMPLES.glob("*.otr")}, set(DRAFTS))
+    for name, draft in DRAFTS.items():
         sheet = (EXAMPLES / f"{name}.otr").read_bytes()
         made = sheet_text.make((EXAMPLES / f"{name}.txt").read_text(encoding="utf-8"))
         yield Check(f"{name}: made from its text", (made.sheet, made.mistakes, made.rounded), (sheet, [], []))
-        yield Check(f"{name}: the report's figures", sheet, write(draft))
+        yield Check(f"{name}: the figures that it must hold", sheet, write(draft))
         yield Check(f"{name}: accepted", model.answer(sheet), None)
         gauges = curves.read_listing(stored(name))
         yield Check(f"{name}: gauges of its listing", [gauge.segment for gauge in gauges], draft.gauges)
@@ -765,17 +838,34 @@ def listing_check(name: str, found: bytes, wanted: bytes) -> Check:
 
 def program_checks(path: str, full: bool) -> Iterator[Check]:
     """The program's listings of the examples: beside the model's, and beside the stored ones."""
-    for name, draft in uvas.EXAMPLES.items():
+    for name, draft in DRAFTS.items():
         M, interval = draft.header.M, draft.header.interval
         for sheet in (early_injection(draft), shortened(draft, 20, 3)):
             found, wanted = printed(path, sheet), model.listing(sheet)
             yield listing_check(f"{name}: the model's listing", found, wanted)
-        steps = M if full else 2 * interval
+        begun = draft.flow_rows[0].start if draft.flow_rows else 0
+        steps = M if full else begun + 2 * interval
         heading, *lines, _ = stored(name).splitlines(keepends=True)
         kept = [line for line in lines if int(line.split()[0]) <= steps]
         wanted = "".join([heading, *kept, f"done {steps}\n"]).encode("ascii")
         found = printed(path, shortened(draft, steps, interval))
         yield listing_check(f"{name}: its stored listing, {steps} steps", found, wanted)
+    if full:
+        yield from steady_checks(path)
+
+
+def steady_checks(path: str) -> Iterator[Check]:
+    """What docs/SNOWMELT.md says of the intake, with the flow rows and without."""
+    document = (ROOT / "docs" / "SNOWMELT.md").read_text(encoding="utf-8")
+    text = (EXAMPLES / "snowmelt.txt").read_text(encoding="utf-8").split("\nflow  from")[0]
+    steady = printed(path, sheet_text.make(text).sheet).decode()
+    tables = [shown(listing, sheet=EXAMPLES / "snowmelt.otr", clock=0.0, limit=curves.limit_figure("8 mg/L"))
+              for listing in (stored("snowmelt"), steady)]
+    intake = [[cells(line)[-2:] for line in show.table("channel")[-2:]] for show in tables]
+    spells = [[f"{begin.removesuffix(' h')} to {until}" for begin, until in times] for times in intake]
+    for hour, *times in zip((5, 16), *spells):
+        row = f"| release at {hour} h | {' | '.join(times)} |"
+        yield Check(f"docs/SNOWMELT.md: {row}", row in document, True)
 
 
 # The documents' commands
@@ -793,21 +883,26 @@ def run_shown(line: str, example: str, folder: Path, program: bool) -> str:
 
 
 def document_checks(full: bool) -> Iterator[Check]:
-    """The commands of docs/UVAS.md draw its pictures; README.md shows what its own prints."""
-    found = PICTURE.findall((ROOT / "docs" / "UVAS.md").read_text(encoding="utf-8"))
+    """The commands of two documents draw their pictures; README.md and docs/SNOWMELT.md show what theirs print."""
+    found = [each for name in ("UVAS", "SNOWMELT")
+             for each in PICTURE.findall((ROOT / "docs" / f"{name}.md").read_text(encoding="utf-8"))]
     yield Check("pictures with a command", [picture for picture, _, _ in found],
-                [f"examples/uvas-{name}.svg" for name in ("chloride", "strontium")])
+                [f"examples/{name}.svg" for name in ("uvas-chloride", "uvas-strontium", "snowmelt")])
     text, shown_blocks = (ROOT / "README.md").read_text(encoding="utf-8"), blocks("README.md")
     proving = "python3 tools/prove.py river && "
     with tempfile.TemporaryDirectory() as name:
         folder = Path(name)
         for each in ("examples", "tools", "target"):
             (folder / each).symlink_to(ROOT / each)         # a command names files from the repository's top
+        shown_there = {}
         for picture, example, line in found:
-            run_shown(line, example, folder, RIVER.exists() and (full or example == "uvas-chloride"))
+            program = RIVER.exists() and (full or example == "uvas-chloride")
+            shown_there[example] = run_shown(line, example, folder, program)
             drawn = folder / line.split()[-1]
             yield Check(f"{picture}: drawn by its command",
                         drawn.exists() and drawn.read_bytes() == (ROOT / picture).read_bytes(), True)
+        yield Check("docs/SNOWMELT.md: what it shows",
+                    paragraphs(shown_there["snowmelt"])[0] in blocks("docs/SNOWMELT.md"), True)
         line = next(block[0] for block in shown_blocks if block[0].startswith(proving)).removeprefix(proving)
         table, *plots, _ = paragraphs(run_shown(line, "uvas-chloride", folder, False))
     plot = next(plot for plot in plots if plot[0].startswith("433 m"))

@@ -31,9 +31,17 @@ unit      m
 """
 
 
-def edited(*edits: tuple[int, str]) -> str:
+FLOW_TEXT = TEXT + """\
+flow      from  top
+unit      s     L/s
+1         10    25
+2         40    8
+"""
+
+
+def edited(*edits: tuple[int, str], text: str = TEXT) -> str:
     """The text with lines changed; a line may become several, or none."""
-    lines = TEXT.splitlines()
+    lines = text.splitlines()
     for number, line in sorted(edits, reverse=True):
         lines[number - 1:number] = line.splitlines()
     return "".join(line + "\n" for line in lines)
@@ -57,6 +65,10 @@ FEET = edited((2, "segment length 25 ft"), (5, "flow at top ~0.7 ft3/s"), (6, "r
               (22, "1 25"), (23, "2 150"))
 
 
+FLOWS_BY_STEP = ((24, "flow step top"), (25, "unit - m3/s"), (26, "1 1 0.025"), (27, "2 4 0.008"))
+OTHER_FLOWS = edited(*FLOWS_BY_STEP, text=FLOW_TEXT)
+
+
 class Mistaken(NamedTuple):
     """A text with a mistake: its line, the test that refuses it (0 for the text itself), and words about it."""
 
@@ -68,6 +80,10 @@ class Mistaken(NamedTuple):
 
 def mistaken(line: int, number: int, words: str, *edits: tuple[int, str]) -> Mistaken:
     return Mistaken(edited(*edits), line, number, words)
+
+
+def with_flows(line: int, number: int, words: str, *edits: tuple[int, str]) -> Mistaken:
+    return Mistaken(edited(*edits, text=FLOW_TEXT), line, number, words)
 
 
 MISTAKES = (
@@ -185,14 +201,45 @@ MISTAKES = (
     mistaken(9, 12, "in segment 4 (reach 2) T is 1.", (9, "2 3 0.5 1 0.2 0.3")),
     mistaken(9, 12, "with a step of at most 1 s (about 0.0166666666 min) the whole river passes",
              (1, "step ~0.1666667 min"), (9, "2 3 0.5 1 0.2 0.3")),
+    # flow rows
+    mistaken(5, 0, "'flow at' is not known; did you mean 'flow at top'?", (5, "flow at 20 L/s")),
+    with_flows(24, 0, "the flow table has no column 'concentration'; known are step, from, top",
+               (24, "flow from concentration")),
+    with_flows(24, 0, "after 'flow' come some of step, from, top", (24, "flow")),
+    with_flows(25, 0, "column top: 'ng/L' is not a unit of flow", (25, "unit s ng/L")),
+    with_flows(26, 0, "'all' is for reaches; a flow row has its number", (26, "all 10 25")),
+    with_flows(25, 0, "no row numbered 1 for 'flow'", (26, ""), (27, "")),
+    with_flows(26, 0, "flow 1 has no top_flow", (24, "flow from"), (25, "unit s"), (26, "1 10"), (27, "2 40")),
+    with_flows(27, 0, "from of flow 2 is 45 s, that is 4.5 steps of 10 s: not a whole number", (27, "2 45 8")),
+    with_flows(26, 0, "top of flow 1 is 5e6 L/s: a field holds at most 4,294,967,295 mL/s (about 4294967.29 L/s); "
+               "document 01 allows 0 to 100,000,000 mL/s (0 to 100000 L/s)", (26, "1 10 5e6")),
+    with_flows(90, 3, "the count of flow rows is 65; document 02 allows 1 to 64 flow rows",
+               *FLOWS_BY_STEP[:2], (26, numbered(65, "# 0.025")), (27, "")),
+    with_flows(26, 16, "flow row 1 starts at step 0 (0 s); a flow row starts at step 1 at the earliest",
+               (26, "1 0 25")),
+    with_flows(26, 16, "flow row 1 starts at step 0; a flow row", *FLOWS_BY_STEP[:2], (26, "1 0 1"), (27, "2 4 0")),
+    with_flows(27, 16, "flow row 2 starts at step 1 (10 s), which is not after flow row 1, at step 1 (10 s)",
+               (27, "2 10 8")),
+    with_flows(27, 16, "flow row 2 starts at step 7 (70 s), after the last step, 6 (60 s)", (27, "2 70 8")),
+    with_flows(26, 16, "the top flow of flow row 1 is 101,000,000 mL/s (101 m3/s); "
+               "document 01 allows 0 to 100,000,000 mL/s (0 to 100 m3/s)", (25, "unit s m3/s"), (26, "1 10 101"),
+               (27, "2 40 0.008")),
+    with_flows(27, 10, "with flow row 2, from step 4 (0.0111111 h) on, in segment 4 (reach 2) the flow is -10 mL/s "
+               "(-0.01 L/s)", (12, "all 0 1000 0.5 1"), (27, "2 40 0.02")),
+    with_flows(27, 10, "or raise the top flow of flow row 2 by 30 mL/s (0.03 L/s)", (12, "all 0 1000 0.5 1"),
+               (27, "2 40 0.02")),
+    with_flows(26, 10, "or the top flow of flow row 1 by 100 mL/s (0.1 L/s)", (26, "1 10 1e5")),
+    with_flows(26, 11, "with flow row 1, from step 1 (0.00277778 h) on, in segment 1 (reach 1) Q × dx, "
+               "101,000 × 1,000", (26, "1 10 101")),
+    with_flows(9, 11, "in segment 4 (reach 2) Q × dx, 20,060 × 1,000", (9, "2 3 0 1 0.2 1e-3")),
 )
 
 
 def any_text(rng: random.Random) -> str:
-    """The text with some words changed, lost, added or moved."""
-    lines = [line.split() for line in TEXT.splitlines()]
+    """A text with some words changed, lost, added or moved."""
+    lines = [line.split() for line in rng.choice((TEXT, FLOW_TEXT)).splitlines()]
     words = [word for line in lines for word in line]
-    words += ["~3", "1e9", "-", "#", "all", "0", "²", "٣", "1.2.3", "unit", "reach", "9" * 60]
+    words += ["~3", "1e9", "-", "#", "all", "0", "²", "٣", "1.2.3", "unit", "reach", "flow", "9" * 60]
     for _ in range(rng.randint(1, 4)):
         line, kind = rng.choice(lines), rng.randrange(4)
         if kind == 0 and line:

@@ -130,8 +130,8 @@ class Header:
         at = begin
         for declaration in self.code[begin:end].split(";"):
             for part in parted(self.code, at, at + len(declaration)):
-                name = re.search(r"\w+$", self.code[part.begin:part.end])
-                found[name[0]] = Span(part.begin + name.start(), part.end)
+                name = re.search(r"(\w+)(?:\[\d+\])?$", self.code[part.begin:part.end])
+                found[name[1]] = Span(part.begin + name.start(1), part.begin + name.end(1))
             at += len(declaration) + 1
         return found
 

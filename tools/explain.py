@@ -1,4 +1,4 @@
-"""Says in words why document 01 refuses a sheet, or what an accepted sheet holds.
+"""Says in words why document 01 (or 02, request 1) refuses a sheet, or what an accepted sheet holds.
 
 The verdict is always the model's; what is added here are the figures behind it,
 the limit that they break, and what to change.
@@ -12,7 +12,7 @@ from typing import NamedTuple, Optional
 
 import otis_model as model
 import units
-from otis_model import FIELD, MARK, ONE_WHOLE, Header, Place, Range, Reach, Refusal, Segment, Sheet, Walk
+from otis_model import FIELD, MARK, ONE_WHOLE, Header, Numbers, Place, Range, Reach, Refusal, Sheet, Walk
 from units import HEADER_KINDS, REACH_KINDS, Quantity, Unit
 
 TERMS = {
@@ -35,25 +35,33 @@ class Section(NamedTuple):
     records: str
     fields: tuple[str, ...]
     most: int
+    document: str = "document 01"
 
 
 SECTIONS = (Section("reach", "reaches", Reach._fields, model.MOST_REACHES),
             Section("boundary row", "boundary rows", ("start step", "concentration"), model.MOST_ROWS),
-            Section("gauge", "gauges", ("segment",), model.MOST_GAUGES))
+            Section("gauge", "gauges", ("segment",), model.MOST_GAUGES),
+            Section("flow row", "flow rows", ("start step", "top flow"), model.MOST_FLOW_ROWS, "document 02"))
+
+
+def last_section(sheet: bytes) -> Section:
+    """Tests 2 and 4 go by whichever section is last."""
+    return SECTIONS[-1 if model.has_flow_rows(sheet) else -2]
 
 
 class Fault(NamedTuple):
-    """One thing that document 01 refuses: test, place, the field if it is one, the fact and a remedy."""
+    """One thing that is refused: test, place, the field if it is one, the fact, a remedy and, of 10 to 12, the flow."""
 
     number: int
     place: Place
     field: str
     fact: str
     remedy: str
+    flow: int = 0                   # the number of its flow row; 0 is the top flow
 
 
-# The units that a text gave its fields in, by table ("header", "reach", "boundary" or "gauge"), number and field;
-# those that were written as the sheet holds them are left out
+# The units that a text gave its fields in, by table ("header", "reach", "boundary", "gauge" or "flow"), number and
+# field; those that were written as the sheet holds them are left out
 Written = Mapping[tuple[str, int, str], Unit]
 
 
@@ -82,6 +90,19 @@ def share(part: float) -> str:
     return f"{part:.6f}".rstrip("0").rstrip(".")
 
 
+def hours(seconds: int) -> str:
+    return f"{seconds / 3600:.6g} h"
+
+
+def metres(centimetres: int) -> str:
+    return f"{centimetres / 100:.6g} m"
+
+
+def start_words(found: Sheet, start: int) -> str:
+    """A step and its time."""
+    return f"{start:,} ({hours(found.header.dt * start)})"
+
+
 # Tests 1 to 4: the bytes
 
 
@@ -89,7 +110,7 @@ def mark_faults(sheet: bytes) -> Iterator[Fault]:
     if len(sheet) < len(MARK):
         fact = f"the sheet has {len(sheet)} bytes, fewer than the mark OTR1 alone"
     else:
-        fact = f"the sheet starts with {sheet[:len(MARK)]!r}, not with OTR1"
+        fact = f"the sheet starts with {sheet[:len(MARK)]!r}, not with OTR1 or OTR2"
     yield Fault(1, None, "", fact, "check that the file is a river sheet; make it again from its text")
 
 
@@ -135,16 +156,19 @@ def count_faults(sheet: bytes) -> Iterator[Fault]:
     name = field_name(sheet, at)
     section = next(section for section in SECTIONS if name.endswith(section.records))
     yield Fault(3, None, section.record, f"{name} is {model.field_at(sheet, at):,}",
-                f"document 01 allows 1 to {section.most} {section.records}")
+                f"{section.document} allows 1 to {section.most} {section.records}")
 
 
 def tail_faults(sheet: bytes) -> Iterator[Fault]:
-    end = ended_at(sheet)
-    yield Fault(4, None, "", f"{len(sheet) - end:,} bytes follow the last gauge, which ends at byte {end:,}",
-                "take them off, or raise the count of gauges if they are gauges")
+    end, last = ended_at(sheet), last_section(sheet)
+    remedy = f"take them off, or raise the count of {last.records} if they are {last.records}"
+    if not model.has_flow_rows(sheet):
+        remedy += "; a sheet with flow rows is marked OTR2"
+    yield Fault(4, None, "", f"{len(sheet) - end:,} bytes follow the last {last.record}, which ends at byte {end:,}",
+                remedy)
 
 
-# Tests 5 to 9: ranges, rows and gauges
+# Tests 5 to 9 and 16: ranges, rows and gauges
 
 
 def range_remedy(allowed: Range, kind: Quantity, unit: Optional[Unit]) -> str:
@@ -216,7 +240,52 @@ def gauge_faults(found: Sheet, written: Written) -> Iterator[Fault]:
                         "segment numbers rise strictly from gauge to gauge")
 
 
-# Tests 10 to 12: flows and half-step sums; the lowest segment at fault
+def flow_row_faults(found: Sheet, written: Written) -> Iterator[Fault]:
+    M, rows = found.header.M, found.flow_rows
+    for at, (row, fault) in enumerate(zip(rows, model.flow_row_faults(rows, M)), 1):
+        if not fault:
+            continue
+        place, unit = ("row", at), written.get(("flow", at, "start"))
+        begins = f"flow row {at} starts at step {figure(row.start, units.COUNT, unit)}"
+        if row.start == 0:
+            yield Fault(16, place, "start", begins, "a flow row starts at step 1 at the earliest; "
+                        "the flow at the top holds before the first")
+        if at > 1 and row.start <= rows[at - 2].start:
+            yield Fault(16, place, "start", f"{begins}, which is not after flow row {at - 1}, "
+                        f"at step {figure(rows[at - 2].start, units.COUNT, unit)}",
+                        "starts rise strictly from row to row")
+        if row.start > M:
+            yield Fault(16, place, "start", f"{begins}, after the last step, {figure(M, units.COUNT, unit)}",
+                        "a flow row starts at the last step at the latest")
+        if not model.FLOW.holds(row.top_flow):
+            unit = written.get(("flow", at, "top_flow"))
+            found_there = figure(row.top_flow, units.FLOW, unit)
+            yield Fault(16, place, "top_flow", f"the top flow of flow row {at} is {found_there}",
+                        range_remedy(model.FLOW, units.FLOW, unit))
+
+
+# Tests 10 to 12: flows and half-step sums; the first flow at fault, and the lowest segment at fault with it
+
+
+def with_flow(found: Sheet, row: int) -> Sheet:
+    """The sheet with one of its flows alone: the top flow, 0, or a row's."""
+    return replace(found, header=model.headers(found)[row], flow_rows=[])
+
+
+def flow_at_fault(found: Sheet, number: int) -> int:
+    """The first flow that a test, 10 to 12, refuses; no test before it refuses any."""
+    for row in range(len(found.flow_rows) + 1):
+        try:
+            model.rivers_of(with_flow(found, row))
+        except Refusal as refusal:
+            if refusal.number == number:
+                return row
+    raise ValueError(f"no flow is refused {number}")
+
+
+def top_unit(row: int, written: Written) -> Optional[Unit]:
+    """The unit that the flow at the top was written in, for the top flow or a row's."""
+    return written.get(("flow", row, "top_flow") if row else ("header", 0, "top_flow"))
 
 
 def reach_of(found: Sheet, segment: int) -> int:
@@ -228,27 +297,31 @@ def reach_of(found: Sheet, segment: int) -> int:
     raise ValueError(f"no segment {segment}")
 
 
-def at_segment(found: Sheet, segment: int) -> str:
-    return f"in segment {segment} (reach {reach_of(found, segment)})"
+def at_segment(found: Sheet, row: int, segment: int) -> str:
+    place = f"in segment {segment} (reach {reach_of(found, segment)})"
+    if row == 0:
+        return place
+    return f"with flow row {row}, from step {start_words(found, found.flow_rows[row - 1].start)} on, {place}"
 
 
-def flow_faults(found: Sheet, segment: int, written: Written) -> Iterator[Fault]:
-    flows = model.flows(found.header, model.reach_of_segments(found.reaches))
-    flow, unit = flows[segment - 1], written.get(("header", 0, "top_flow"))
+def flow_faults(found: Sheet, row: int, segment: int, written: Written) -> Iterator[Fault]:
+    flows = model.flows(model.headers(found)[row], model.reach_of_segments(found.reaches))
+    flow, unit = flows[segment - 1], top_unit(row, written)
+    top = f"the top flow of flow row {row}" if row else "the flow at the top"
     if flow < 0:
         remedy = (f"the outflow qout above it takes more than the river has: lower it, "
-                  f"or raise the flow at the top by {figure(-min(flows), units.FLOW, unit, ROUND_CEILING)}")
+                  f"or raise {top} by {figure(-min(flows), units.FLOW, unit, ROUND_CEILING)}")
     else:
         excess = figure(max(flows) - model.HIGHEST_FLOW, units.FLOW, unit, ROUND_CEILING)
         remedy = (f"a flow is {at_most(model.HIGHEST_FLOW, units.FLOW, unit)}: lower qin above it, "
-                  f"or the flow at the top by {excess}")
+                  f"or {top} by {excess}")
     yield Fault(10, ("segment", segment), "",
-                f"{at_segment(found, segment)} the flow is {figure(flow, units.FLOW, unit)}", remedy)
+                f"{at_segment(found, row, segment)} the flow is {figure(flow, units.FLOW, unit)}", remedy, row)
 
 
-def dispersion_faults(found: Sheet, segment: int, written: Written) -> Iterator[Fault]:
+def dispersion_faults(found: Sheet, row: int, segment: int, written: Written) -> Iterator[Fault]:
     own = model.reach_of_segments(found.reaches)
-    Q = model.flows(found.header, own)[segment - 1]
+    Q = model.flows(model.headers(found)[row], own)[segment - 1]
     _, here, below = model.dispersion_around(own)[segment - 1]
     dx, A, reach = found.header.dx, own[segment - 1].A, reach_of(found, segment)
     last_of_reach = segment == sum(each.segments for each in found.reaches[:reach]) < len(own)
@@ -263,42 +336,47 @@ def dispersion_faults(found: Sheet, segment: int, written: Written) -> Iterator[
                         f"in reach {reach}")
     remedy = " or ".join(remedies) + " would do here" if remedies else "raise D"
     yield Fault(11, ("segment", segment), "D",
-                f"{at_segment(found, segment)} Q × dx, {Q:,} × {dx:,} = {Q * dx:,} cm4/s, "
+                f"{at_segment(found, row, segment)} Q × dx, {Q:,} × {dx:,} = {Q * dx:,} cm4/s, "
                 f"exceeds AD own + AD below, {here:,} + {below:,} = {here + below:,} cm4/s",
-                f"the segments are too long for the dispersion: {remedy}")
+                f"the segments are too long for the dispersion: {remedy}", row)
 
 
-def half_step_numbers(found: Sheet, segment: int) -> Segment:
+def sets_of(found: Sheet, dt: int) -> Iterator[list[Numbers]]:
+    """The set of each flow that the sheet has, with this step; flows alike have the same."""
     own = model.reach_of_segments(found.reaches)
-    at = segment - 1
-    return model.segment(found.header, own[at], model.flows(found.header, own)[at],
-                         model.dispersion_around(own)[at], segment == len(own))
+    AD = model.dispersion_around(own)
+    for header in dict.fromkeys(model.headers(found)):
+        yield model.set_of(header._replace(dt=dt), own, model.flows(header, own), AD)
 
 
 def longest_step(found: Sheet) -> int:
-    """The longest dt for which a river, its flows in range, passes 12, all else unchanged; 0 if there is none.
+    """The longest dt for which a river, its flows in range, passes 12 with all, all else unchanged; 0 if none.
 
     It is found by halving, since a river that passes with a step passes with every shorter one: each sum has
     at most six terms and so lies within 3 parts of dt x its rate, and if it is above one whole with up to 3,600
     seconds, one second more adds some 300,000 parts.
     """
-    own = model.reach_of_segments(found.reaches)
-    Q, AD = model.flows(found.header, own), model.dispersion_around(own)
     low, high = 0, DT.high + 1
     while high - low > 1:
         middle = (low + high) // 2
-        river = model.segments_of(found.header._replace(dt=middle), own, Q, AD)
-        low, high = (low, middle) if any(part.over_one_whole() for part in river) else (middle, high)
+        over = any(part.over_one_whole() for each in sets_of(found, middle) for part in each)
+        low, high = (low, middle) if over else (middle, high)
     return low
 
 
-def refused_at(header: Header, gains: list[int], AD: list[tuple[int, int, int]]) -> Optional[int]:
+def refused_at(headers: list[Header], gains: list[int], AD: list[tuple[int, int, int]]) -> Optional[int]:
     """Where tests 10 and 11 refuse segments with these net gains and AD, from 0 on; nothing where they pass."""
     try:
-        model.test_flows(header.dx, [model.flow(header, gain) for gain in gains], AD)
+        model.test_flows(headers[0].dx, [[model.flow(header, gain) for gain in gains] for header in headers], AD)
     except Refusal as refusal:
         return refusal.place[1] - 1
     return None
+
+
+def ends_of_flow(found: Sheet, dx: int) -> list[Header]:
+    """The header with this dx and the lowest and the highest flow: what passes 10 and 11 with both does with all."""
+    tops = [header.top_flow for header in model.headers(found)]
+    return [found.header._replace(dx=dx, top_flow=top) for top in sorted({min(tops), max(tops)})]
 
 
 def longest_segments(found: Sheet) -> int:
@@ -311,17 +389,17 @@ def longest_segments(found: Sheet) -> int:
     gains, AD = model.gains(own), model.dispersion_around(own)
     first = 0
     for dx in range(DX.high, DX.low - 1, -1):
-        header = found.header._replace(dx=dx)
-        if refused_at(header, gains[first:first + 1], AD[first:first + 1]) is None:
-            at = refused_at(header, gains, AD)
+        headers = ends_of_flow(found, dx)
+        if refused_at(headers, gains[first:first + 1], AD[first:first + 1]) is None:
+            at = refused_at(headers, gains, AD)
             if at is None:
                 return dx
             first = at
     return 0
 
 
-def sum_faults(found: Sheet, segment: int, written: Written) -> Iterator[Fault]:
-    part = half_step_numbers(found, segment)
+def sum_faults(found: Sheet, row: int, segment: int, written: Written) -> Iterator[Fault]:
+    part = next(sets_of(with_flow(found, row), found.header.dt))[segment - 1]
     longest = longest_step(found)
     unit = written.get(("header", 0, "dt"))
     remedy = (f"with a step of {at_most(longest, units.TIME, unit)} the whole river passes" if longest else
@@ -330,15 +408,15 @@ def sum_faults(found: Sheet, segment: int, written: Written) -> Iterator[Fault]:
         if total > ONE_WHOLE:
             numbers = ", ".join(f"{term} {share(getattr(part, term) / ONE_WHOLE)}" for term in terms)
             yield Fault(12, ("segment", segment), name,
-                        f"{at_segment(found, segment)} {name} is {share(total / ONE_WHOLE)} of one whole, "
-                        f"{total - ONE_WHOLE:,} parts too many ({numbers})", remedy)
+                        f"{at_segment(found, row, segment)} {name} is {share(total / ONE_WHOLE)} of one whole, "
+                        f"{total - ONE_WHOLE:,} parts too many ({numbers})", remedy, row)
 
 
 BYTE_TESTS: dict[int, Callable[[bytes], Iterator[Fault]]] = {
     1: mark_faults, 2: end_faults, 3: count_faults, 4: tail_faults}
 FIELD_TESTS: dict[int, Callable[[Sheet, Written], Iterator[Fault]]] = {
-    5: header_faults, 6: reach_faults, 7: length_faults, 8: row_faults, 9: gauge_faults}
-SEGMENT_TESTS: dict[int, Callable[[Sheet, int, Written], Iterator[Fault]]] = {
+    5: header_faults, 6: reach_faults, 7: length_faults, 8: row_faults, 9: gauge_faults, 16: flow_row_faults}
+SEGMENT_TESTS: dict[int, Callable[[Sheet, int, int, Written], Iterator[Fault]]] = {
     10: flow_faults, 11: dispersion_faults, 12: sum_faults}
 
 
@@ -352,18 +430,19 @@ def faults(sheet: bytes, written: Written = {}) -> list[Fault]:
     found = model.walk(Walk(sheet))
     if refusal.number in FIELD_TESTS:
         return list(FIELD_TESTS[refusal.number](found, written))
-    return list(SEGMENT_TESTS[refusal.number](found, refusal.place[1], written))
+    row = flow_at_fault(found, refusal.number)
+    return list(SEGMENT_TESTS[refusal.number](found, row, refusal.place[1], written))
 
 
 # What is said of a sheet
 
 
 def place_words(fault: Fault) -> str:
-    """A refusal's place; a gauge's is its number in the list of gauges."""
+    """A refusal's place; a gauge's is its number in the list of gauges, a flow row's that among the flow rows."""
     if fault.place is None:
         return ""
     kind, at = fault.place
-    return f", gauge {at}" if fault.number == 9 else f", {kind} {at}"
+    return f", {({9: 'gauge', 16: 'flow row'}).get(fault.number, kind)} {at}"
 
 
 def refusal_words(found: list[Fault]) -> str:
@@ -373,60 +452,98 @@ def refusal_words(found: list[Fault]) -> str:
     return "\n".join(lines)
 
 
-def hours(seconds: int) -> str:
-    return f"{seconds / 3600:.6g} h"
+class Margin(NamedTuple):
+    """How near one of the flows comes to a limit, as a part of it, and where."""
+
+    part: float
+    row: int
+    segment: int
+
+    def words(self) -> str:
+        return f"{share(self.part)} (segment {self.segment})"
 
 
-def metres(centimetres: int) -> str:
-    return f"{centimetres / 100:.6g} m"
+def along(row: int, parts: list[float]) -> Margin:
+    """The highest part along the river, and the first segment that has it."""
+    top = max(parts)
+    return Margin(top, row, parts.index(top) + 1)
 
 
-def highest(values: list[float]) -> tuple[float, int]:
-    """The highest value and the first segment that has it."""
-    top = max(values)
-    return top, values.index(top) + 1
+class Course(NamedTuple):
+    """What one flow gives of an accepted sheet: its flows and how near it comes to what tests 11 and 12 allow."""
+
+    Q: list[int]
+    face: Margin
+    sums: dict[str, Margin]
 
 
-def margins(found: Sheet) -> Iterator[str]:
-    """How near the river comes to what tests 11 and 12 allow."""
+def courses(found: Sheet) -> list[Course]:
     own = model.reach_of_segments(found.reaches)
-    dx = found.header.dx
-    ratios = [Q * dx / max(1, here + below) for Q, (_, here, below)
-              in zip(model.flows(found.header, own), model.dispersion_around(own))]
-    ratio, at = highest(ratios)
-    yield f"test 11: Q × dx is at most {share(ratio)} of AD own + AD below (segment {at})"
-    river = model.river_of(found)
-    sums = []
-    for name in ("T", "V", "h"):
-        top, at = highest([getattr(part, name) / ONE_WHOLE for part in river])
-        sums.append(f"{name} is at most {share(top)} (segment {at})")
-    yield f"test 12: of one whole, {', '.join(sums)}"
+    AD, dx, made = model.dispersion_around(own), found.header.dx, []
+    for row, (header, river) in enumerate(zip(model.headers(found), model.rivers_of(found))):
+        Q = model.flows(header, own)
+        face = along(row, [flow * dx / max(1, here + below) for flow, (_, here, below) in zip(Q, AD)])
+        sums = {name: along(row, [getattr(part.numbers, name) / ONE_WHOLE for part in river])
+                for name in ("T", "V", "h")}
+        made.append(Course(Q, face, sums))
+    return made
+
+
+def margins(made: list[Course]) -> Iterator[str]:
+    """How near the river comes to what tests 11 and 12 allow, of all its flows; V and h do not depend on the flow."""
+    def first_highest(margins: list[Margin]) -> tuple[str, str]:
+        found = max(margins, key=lambda margin: margin.part)
+        flow = "" if len(made) == 1 else f", flow row {found.row}" if found.row else ", the top flow"
+        return share(found.part), f"(segment {found.segment}{flow})"
+
+    part, place = first_highest([course.face for course in made])
+    yield f"test 11: Q × dx is at most {part} of AD own + AD below {place}"
+    T = " ".join(first_highest([course.sums["T"] for course in made]))
+    V, h = (made[0].sums[name].words() for name in "Vh")
+    yield f"test 12: of one whole, T is at most {T}, V is at most {V}, h is at most {h}"
+
+
+def flow_table(found: Sheet, made: list[Course]) -> list[str]:
+    """A line for each flow: from when on it holds, and how near it comes to what tests 10 to 12 allow."""
+    rows = [["flow", "from step", "at the top", "along the river (10)", "Q × dx (11)", "T (12)"]]
+    starts = [0, *(row.start for row in found.flow_rows)]
+    for row, (start, course) in enumerate(zip(starts, made)):
+        low, high = min(course.Q), max(course.Q)
+        rows.append([f"flow row {row}" if row else "top flow", start_words(found, start),
+                     figure(course.Q[0], units.FLOW), f"{low:,} to {figure(high, units.FLOW)}",
+                     course.face.words(), course.sums["T"].words()])
+    widths = [max(len(row[at]) for row in rows) for at in range(len(rows[0]))]
+    return ["   ".join(cell.ljust(width) for cell, width in zip(row, widths)).rstrip() for row in rows]
 
 
 def accepted_words(sheet: bytes) -> str:
     found = model.read_sheet(sheet)
     dt, dx, M, interval, top = found.header
-    Q = model.flows(found.header, model.reach_of_segments(found.reaches))
+    made = courses(found)
+    Q = made[0].Q
     gauges = ", ".join(f"{gauge} ({metres(gauge * dx)})" for gauge in found.gauges)
+    flow_rows = f"{len(found.flow_rows)} flow rows, " if found.flow_rows else ""
     lines = [f"{len(found.reaches)} reaches, {len(Q):,} segments of {metres(dx)}: {metres(len(Q) * dx)}",
              f"{M:,} steps of {dt:,} s: {hours(dt * M)}",
              f"a line for each gauge every {interval:,} steps ({hours(dt * interval)})",
              f"flow {figure(top, units.FLOW)} at the top, {figure(Q[-1], units.FLOW)} in the last segment",
-             f"{len(found.rows)} boundary rows; gauges in segment {gauges}",
-             *margins(found)]
+             f"{flow_rows}{len(found.rows)} boundary rows; gauges in segment {gauges}",
+             *margins(made), *(flow_table(found, made) if found.flow_rows else [])]
     return "accepted\n" + "\n".join(f"  {line}" for line in lines)
 
 
 def has_river(found: Sheet) -> bool:
-    """The sheet has segments and flows: its reaches and the flow at the top are in range."""
-    return (model.FLOW.holds(found.header.top_flow) and model.segment_count(found.reaches) <= model.MOST_SEGMENTS
+    """The sheet has segments and flows: its reaches and its flows at the top are in range."""
+    return (all(model.FLOW.holds(header.top_flow) for header in model.headers(found))
+            and model.segment_count(found.reaches) <= model.MOST_SEGMENTS
             and all(model.in_ranges(reach, model.REACH_RANGES) for reach in found.reaches))
 
 
 def longest_words(found: Sheet) -> Iterator[str]:
     """The longest dx and dt that pass, each with all else unchanged; dt with that dx too, where dx must change."""
     if not has_river(found):
-        yield "the longest dx and dt: not to be told while the reaches or the flow at the top are out of range"
+        top = "a flow at the top" if found.flow_rows else "the flow at the top"
+        yield f"the longest dx and dt: not to be told while the reaches or {top} are out of range"
         return
     own = model.reach_of_segments(found.reaches)
     gains, AD = model.gains(own), model.dispersion_around(own)
@@ -438,10 +555,12 @@ def longest_words(found: Sheet) -> Iterator[str]:
         dt = longest_step(river)
         return figure(dt, units.TIME) if dt else f"none from {limits(DT, units.TIME)}"
 
-    in_range = DX.holds(found.header.dx) and all(map(model.FLOW.holds, model.flows(found.header, own)))
+    here = ends_of_flow(found, found.header.dx)
+    in_range = DX.holds(found.header.dx) and all(model.FLOW.holds(flow) for header in here
+                                                 for flow in model.flows(header, own))
     found_dt = step_words(found) if in_range else "not to be told while dx or a flow is out of range"
     yield f"the longest dt for which the whole river passes 12, all else unchanged: {found_dt}"
-    if dx and not (in_range and refused_at(found.header, gains, AD) is None):
+    if dx and not (in_range and refused_at(here, gains, AD) is None):
         other = replace(found, header=found.header._replace(dx=dx))
         yield f"the longest dt for which the whole river passes 12 with that dx: {step_words(other)}"
 

@@ -845,6 +845,10 @@ def pointer(x):
 
 
 SHEET = slice_value("y")
+# the flow row's number, which is handed on as it stands
+FLOW = "vint w32 flow"
+FLOW_OWN = f"u32 .own flow ({FLOW} ∷ [])"
+FLOW_OWNED = "owned ! u32 (Is u32) (uint-makes 𝓤 H A W w32) flow _ (refl, flow-fits)"
 LENT = "use Rattle.loading.proofs.Lent.{Refs, Lists, rows, Values, values, Rooms, last, Same, before, after, heard-last, one-fact, and-fact, says-all}\n"
 ANSWER_TYPED = "(EL.lawful S.the-type S′.the-laws 𝓤 H A W tt .typed r _ is .0)"
 IMPORTS_LOAD = """use Rattle.model.specs.Sheet.{reachCount}
@@ -858,38 +862,39 @@ use Rattle.assembly.proofs.Load.Laws as S′
 
 
 def load():
-    n, count = len(LISTS), 50
-    answer, length, unit, ref, lent = "_17", "_18", "_47", "_48", "_49"
+    n, count = len(LISTS), 51
+    answer, length, unit, ref, lent = "_18", "_19", "_48", "_49", "_50"
     core_tokens = "(‵ (flft (κs .0) (qs .0)) ⊛ raw (toks 𝓤 A 14 (κs .1 .1) (qs .1 .1)))"
     w = Trace(own_locals(count) + ["tokens", "owns"])
     w.line(allocate(count))
-    rooms = ["y-room", "x-room"] + [part("z-room", j) for j in range(n)]
-    w.line("".join(f"pass1 ! (init ! {w.at(f'_{i + 1}')} refl {slice_fits(f'{room} .0')}) $ " for i, room in enumerate(rooms)) + "pass0 ! $")
-    w.assign(length, f"(of-opd ! {w.field('_2', 1)})", fits("x-room .0"))
+    typed = [slice_fits("y-room .0"), fits("flow-fits"), slice_fits("x-room .0")] + [slice_fits(f"{part('z-room', j)} .0") for j in range(n)]
+    w.line("".join(f"pass1 ! (init ! {w.at(f'_{i + 1}')} refl {fit}) $ " for i, fit in enumerate(typed)) + "pass0 ! $")
+    w.assign(length, f"(of-opd ! {w.field('_3', 1)})", fits("x-room .0"))
     for j in range(n):
-        w.reborrow(f"_{3 + j}", f"_{19 + 2 * j}", f"_{20 + 2 * j}", part("z-room", j))
+        w.reborrow(f"_{4 + j}", f"_{20 + 2 * j}", f"_{21 + 2 * j}", part("z-room", j))
     w.note("`Loaded::assemble`")
     w.line(
         w.split("tokens", "sheet-alive", "others") + w.split("others", "table-alive", "lists-alive") + w.join("sheet-alive", "lists-alive", "alive")
-        + w.split("owns", "sheet", "others", rule="fsplit") + w.split("others", "table", "lists", rule="fsplit") + w.move("alive", "sheet", "lists")
+        + w.split("owns", "sheet", "others", rule="fsplit") + w.split("others", "flow", "others", rule="fsplit") + w.drop("flow")
+        + w.split("others", "table", "lists", rule="fsplit") + w.move("alive", "sheet", "lists")
     )
     w.line("use3 W (raw (Core 𝓤 H A at-mem run .pre to-core) ⊛ ‵ Sheet) goes-core $ split ! $")
     w.replace(3, "pre", "sheet")
-    w.line(f"calls-at ! fm (Core 𝓤 H A at-mem run) known-core to-core {w.locals('_1', length, *[f'_{20 + 2 * j}' for j in range(n)])} (λ u.")
+    w.line(f"calls-at ! fm (Core 𝓤 H A at-mem run) known-core to-core {w.locals('_1', '_2', length, *[f'_{21 + 2 * j}' for j in range(n)])} (λ u.")
     w.line(f"use1 W (later (some (λ (r : Load). ({core_tokens} ⊛ ‵ (S.the-row .own r (u ∷ []))) ⊛ raw (ensured 𝓤 H A core.ended (core.clauses 𝓤 H A at-mem run) core-κs core-args tt r)))) (id⊢ 𝓤 _) $ await ! tt $ pick ! (λ r.")
     w.replace(1, "result", "says")
-    text = "split ! $ " + w.move("says") + "use1 W (some (λ (ws : Unit {0} × (Unit {0} × Lists 14)). ‵ (lasts core.ended core-κs core-args ws) ⊛ (raw (fact 𝓤 (Answer r)) ⊛ raw (fact 𝓤 (Written (ws .1 .1)))))) (id⊢ 𝓤 _) $ pick ! (λ ws. split ! $ "
+    text = "split ! $ " + w.move("says") + "use1 W (some (λ (ws : Unit {0} × (Unit {0} × (Unit {0} × Lists 14))). ‵ (lasts core.ended core-κs core-args ws) ⊛ (raw (fact 𝓤 (Answer r)) ⊛ raw (fact 𝓤 (Written (ws .1 .1 .1)))))) (id⊢ 𝓤 _) $ pick ! (λ ws. split ! $ "
     w.replace(1, "lasts", "says")
     text += w.split("says", "answers", "writes") + "heard ! (Answer r) (λ answers. "
     w.replace(1)
-    w.line(text + "heard ! (Written (ws .1 .1)) (λ writes.")
+    w.line(text + "heard ! (Written (ws .1 .1 .1)) (λ writes.")
     w.replace(1)
-    text = "fsplit ! $ drop ! $ fsplit ! $ drop ! $ use1 W (‵ (last 14 z (ws .1 .1)) ⊛ raw (fact 𝓤 (Same 14 z (ws .1 .1)))) (heard-last 𝓤 H A W 14 z (ws .1 .1)) $ split ! $ "
+    text = "fsplit ! $ drop ! $ " * 3 + "use1 W (‵ (last 14 z (ws .1 .1 .1)) ⊛ raw (fact 𝓤 (Same 14 z (ws .1 .1 .1)))) (heard-last 𝓤 H A W 14 z (ws .1 .1 .1)) $ split ! $ "
     w.replace(1, "lists", "same")
-    w.line(text + w.move("same") + "heard ! (Same 14 z (ws .1 .1)) (λ same.")
+    w.line(text + w.move("same") + "heard ! (Same 14 z (ws .1 .1 .1)) (λ same.")
     w.replace(1)
     w.line(w.split("result", "alive", "answer") + w.move("answer") + f"peeks ! S.the-row (Is S.the-row) (shows 𝓤 H A S.the-row) r (u ∷ []) (λ is. land ! (from ! (stop !)) (init ! {w.at(answer)} refl {ANSWER_TYPED}) $")
-    w.reborrow("_2", ref, lent, "x-room")
+    w.reborrow("_3", ref, lent, "x-room")
     w.note("`fill_count`")
     w.line(w.split("alive", "sheet-alive", "lists-alive") + w.move("sheet-alive", "answer", "sheet") + "use3 W (raw (Count 𝓤 H A at-mem run .pre (to-count r u)) ⊛ ‵ Sheet) (goes-count r u) $ split ! $")
     w.replace(3, "pre", "sheet")
@@ -923,29 +928,29 @@ def load():
     w.assign("_0", f"(of-opd ! {w.whole(answer)})", ANSWER_TYPED)
     lists = [slice_value(part("z", j)) for j in range(n)]
     w.leave(
-        ["u", SHEET, slice_value("x"), *lists, "u", "v"] + [v for j in range(n) for v in (pointer(part("z", j)), lists[j])] + ["w", pointer("x"), slice_value("x")]
+        ["u", SHEET, FLOW, slice_value("x"), *lists, "u", "v"] + [v for j in range(n) for v in (pointer(part("z", j)), lists[j])] + ["w", pointer("x"), slice_value("x")]
     )
-    w.line(w.keep("tokens", "sheet", "table", "lists") + "by ! (exits r u (ws .1 .1) (ts .0) n answers writes counts fills same long is)")
+    w.line(w.keep("tokens", "sheet", "table", "lists") + "by ! (exits r u (ws .1 .1 .1) (ts .0) n answers writes counts fills same long is)")
 
-    flat = items([SHEET, slice_value("x"), *lists])
+    flat = items([SHEET, FLOW, slice_value("x"), *lists])
     kept = "(‵ (flft (κs .0) (qs .0)) ⊛ (‵ (flft (κs .1 .0) (qs .1 .0)) ⊛ raw (toks 𝓤 A 14 (κs .1 .1) (qs .1 .1)))) ∷ ‵ Sheet ∷ ‵ (finally T.the-row (x .name) zs) ∷ ‵ (last 14 z ws) ∷ []"
     contracts = "".join(f"""  abbrev {name} : Contract 𝓤
   {name} = tripleOf 𝓤 H A {f}.signature ({f}.spec 𝓤 H A at-mem run)
 
 """ for name, f in [("Core", "core"), ("Count", "count"), ("Fill", "fill")])
-    stays = ["stay-none-slice (0 ∷ []) tt (plain (λ _. u8)) yes", "gave-slice (1 ∷ []) tt (plain (λ _. T.the-row))"] + [f"gave-slice ({j + 2} ∷ []) tt (plain (λ _. u32))" for j in range(n)]
+    stays = ["stay-none-slice (0 ∷ []) tt (plain (λ _. u8)) yes", "stay-none (λ _. u32) yes", "gave-slice (1 ∷ []) tt (plain (λ _. T.the-row))"] + [f"gave-slice ({j + 2} ∷ []) tt (plain (λ _. u32))" for j in range(n)]
     body = f"""abbrev stayed : Stays (the-fn.ended .signature .params) (the-fn.ended .kept)
 stayed = {tuple_of(stays)}
 
 {UNIT_TYPED}
 module _ {MODEL} {RUN} where
 {contracts}module _ {MODEL} (W : Given 𝓤 H A) {RUN}
-    (κs : Lfts 16) (qs : Shares 16) (y : RefT (List ℕ)) (x : RefT (List Reach)) (z : Refs 14) (y-room : Room u8 (length (y .now))) (x-room : Room T.the-row (length (x .now))) (z-room : Rooms 14 z) where
-  abbrev a : RefT (List ℕ) × (RefT (List Reach) × Refs 14)
-  a = (y, (x, z))
+    (κs : Lfts 16) (qs : Shares 16) (y : RefT (List ℕ)) (flow : ℕ) (x : RefT (List Reach)) (z : Refs 14) (y-room : Room u8 (length (y .now))) (flow-fits : flow < 2 ^ 32) (x-room : Room T.the-row (length (x .now))) (z-room : Rooms 14 z) where
+  abbrev a : RefT (List ℕ) × (ℕ × (RefT (List Reach) × Refs 14))
+  a = (y, (flow, (x, z)))
 
-  abbrev at : List Val × (List Val × Values 14)
-  at = ({SHEET} ∷ [], (sliceVal (x .ptr) (length (x .now)) ∷ [], values 14 z))
+  abbrev at : List Val × (List Val × (List Val × Values 14))
+  at = ({SHEET} ∷ [], ({FLOW} ∷ [], (sliceVal (x .ptr) (length (x .now)) ∷ [], values 14 z)))
 
   abbrev Post : Val → SProp 𝓤
   Post = walkOf 𝓤 H A the-fn.ended stayed (the-fn.clauses 𝓤 H A at-mem run) .post ((κs, qs, tt, a, at), tt)
@@ -960,24 +965,25 @@ module _ {MODEL} {RUN} where
   abbrev core-κs : Lfts 15
   core-κs = (κs .0, κs .1 .1)
 
-  abbrev core-args : RefT (List ℕ) × (ℕ × Refs 14)
-  core-args = (y, (length (x .now), z))
+  abbrev core-args : RefT (List ℕ) × (ℕ × (ℕ × Refs 14))
+  core-args = (y, (flow, (length (x .now), z)))
 
   abbrev to-core : Core 𝓤 H A at-mem run .Ghost
-  to-core = ((core-κs, (qs .0, qs .1 .1), tt, core-args, ({SHEET} ∷ [], (vint w64 (length (x .now)) ∷ [], values 14 z))), tt)
+  to-core = ((core-κs, (qs .0, qs .1 .1), tt, core-args, ({SHEET} ∷ [], ({FLOW} ∷ [], (vint w64 (length (x .now)) ∷ [], values 14 z)))), tt)
 
   goes-core : ent 𝓤 (sep 𝓤 (sep 𝓤 (A .lft (κs .0) (qs .0)) (toks 𝓤 A 14 (κs .1 .1) (qs .1 .1))) (sep 𝓤 (sem 𝓤 H A Sheet) (sem 𝓤 H A (owns (rows 14 (κs .1 .1)) z (values 14 z))))) (sep 𝓤 (Core 𝓤 H A at-mem run .pre to-core) (sem 𝓤 H A Sheet))
   goes-core =
       qed W ({core_tokens} ∷ ‵ Sheet ∷ ‵ (owns (rows 14 (κs .1 .1)) z (values 14 z)) ∷ []) ∵ move ! (1 ∷ []) $
       use1 W (‵ Sheet ⊛ ‵ Sheet) (shr-slice-copy 𝓤 H A W (named 0) (κs .0) u8 .twice y ({SHEET} ∷ [])) $ split ! $
-      move ! (3 ∷ []) $ owned ! usize (Is usize) (uint-makes 𝓤 H A W w64) (length (x .now)) _ (refl, x-room .0) $ fjoin ! $ move ! (1 ∷ 0 ∷ []) $ fjoin ! $ move ! (2 ∷ 0 ∷ []) $
-      use2 W (raw (Core 𝓤 H A at-mem run .pre to-core)) (qed W ({core_tokens} ∷ ‵ (fsep Sheet (fsep (usize .own (length (x .now)) (vint w64 (length (x .now)) ∷ [])) (owns (rows 14 (κs .1 .1)) z (values 14 z)))) ∷ []) ∵ join ! $ frame ! $ done !) $ frame ! $ done !
+      move ! (3 ∷ []) $ owned ! usize (Is usize) (uint-makes 𝓤 H A W w64) (length (x .now)) _ (refl, x-room .0) $ fjoin ! $
+      {FLOW_OWNED} $ fjoin ! $ move ! (1 ∷ 0 ∷ []) $ fjoin ! $ move ! (2 ∷ 0 ∷ []) $
+      use2 W (raw (Core 𝓤 H A at-mem run .pre to-core)) (qed W ({core_tokens} ∷ ‵ (fsep Sheet (fsep ({FLOW_OWN}) (fsep (usize .own (length (x .now)) (vint w64 (length (x .now)) ∷ [])) (owns (rows 14 (κs .1 .1)) z (values 14 z))))) ∷ []) ∵ join ! $ frame ! $ done !) $ frame ! $ done !
 
   abbrev Answer : Load → Type 0
-  Answer r = loadSays r ≡ loadAnswer (y .now) (length (x .now)) (before z)
+  Answer r = loadSays r ≡ loadAnswer (y .now) flow (length (x .now)) (before z)
 
   abbrev Written : Lists 14 → Type 0
-  Written ws = after ws ≡ loadColumns (y .now) (length (x .now)) (before z)
+  Written ws = after ws ≡ loadColumns (y .now) flow (length (x .now)) (before z)
 
   -- `fill_count`
   abbrev to-count : Load → Val → Count 𝓤 H A at-mem run .Ghost
@@ -1016,19 +1022,19 @@ module _ {MODEL} {RUN} where
   Filled n zs = map reachSays zs ≡ filled (y .now) n (map reachSays (x .now))
 
   -- the list of reach records at exit is document 01's
-  records : (r : Load) (zs : List Reach) (n : ℕ) → Answer r → n ≡ fillCount (loadSays r) (reachCount (y .now)) → Filled n zs → map reachSays zs ≡ loadRecords (y .now) (map reachSays (x .now)) (before z)
+  records : (r : Load) (zs : List Reach) (n : ℕ) → Answer r → n ≡ fillCount (loadSays r) (reachCount (y .now)) → Filled n zs → map reachSays zs ≡ loadRecords (y .now) flow (map reachSays (x .now)) (before z)
   records r zs n answers counts fills =
       let long : length (map reachSays (x .now)) ≡ length (x .now) = length-map (x .now) reachSays in
-      fills ∙ ap (λ m. filled (y .now) m (map reachSays (x .now))) (counts ∙ ap (λ o. fillCount o (reachCount (y .now))) (answers ∙ ap (λ m. loadAnswer (y .now) m (before z)) (sym long)))
-      ∙ load-records (y .now) (map reachSays (x .now)) (before z)
+      fills ∙ ap (λ m. filled (y .now) m (map reachSays (x .now))) (counts ∙ ap (λ o. fillCount o (reachCount (y .now))) (answers ∙ ap (λ m. loadAnswer (y .now) flow m (before z)) (sym long)))
+      ∙ load-records (y .now) flow (map reachSays (x .now)) (before z)
 
   exits : (r : Load) (u : Val) (ws : Lists 14) (zs : List Reach) (n : ℕ) → Answer r → Written ws → n ≡ fillCount (loadSays r) (reachCount (y .now)) → Filled n zs → Same 14 z ws → length zs ≡ length (x .now) → Is S.the-row r (u ∷ []) →
       ent 𝓤 (⋆ 𝓤 H A ({kept})) (Post u)
   exits r u ws zs n answers writes counts fills same long is =
       qed W ({kept}) ∵
-      suffices ! _ (ends-at 𝓤 H A the-fn.ended stayed (the-fn.clauses 𝓤 H A at-mem run) W ((κs, qs, tt, a, at), tt) u r (tt, (zs, ws)) (tt, (long, same))) $
+      suffices ! _ (ends-at 𝓤 H A the-fn.ended stayed (the-fn.clauses 𝓤 H A at-mem run) W ((κs, qs, tt, a, at), tt) u r (tt, (tt, (zs, ws))) (tt, (tt, (long, same)))) $
       says-all ! (and-fact 𝓤 answers (and-fact 𝓤 writes (one-fact 𝓤 (records r zs n answers counts fills)))) $ frame ! $
-      move ! (1 ∷ 2 ∷ []) $ fjoin ! $ move ! (1 ∷ 0 ∷ []) $ fjoin ! $ frame ! $ owned ! S.the-row (Is S.the-row) (EL.makes S.the-type S′.the-plain 𝓤 H A) r _ is $ done !
+      move ! (1 ∷ 2 ∷ []) $ fjoin ! $ {FLOW_OWNED} $ fjoin ! $ move ! (1 ∷ 0 ∷ []) $ fjoin ! $ frame ! $ owned ! S.the-row (Is S.the-row) (EL.makes S.the-type S′.the-plain 𝓤 H A) r _ is $ done !
 
   module _ (𝓣 : Tables 𝓤 H) (known-core : Triple 𝓤 (𝓣 .C #core) (Core 𝓤 H A at-mem run)) (known-count : Triple 𝓤 (𝓣 .C #count) (Count 𝓤 H A at-mem run)) (known-fill : Triple 𝓤 (𝓣 .C #fill) (Fill 𝓤 H A at-mem run)) where
     abbrev fm : FmC 𝓤 H (W .laws) (𝓣 .C)
@@ -1036,15 +1042,15 @@ module _ {MODEL} {RUN} where
 
     trace : ent 𝓤 (onEntry 𝓤 H A the-fn.signature κs qs a at) (WpFn 𝓤 H (𝓣 .C) (𝓣 .Λ) code.function ({flat}) Post)
     trace =
-        qed W ((‵ (flft (κs .0) (qs .0)) ⊛ (‵ (flft (κs .1 .0) (qs .1 .0)) ⊛ raw (toks 𝓤 A 14 (κs .1 .1) (qs .1 .1)))) ∷ ‵ (fsep Sheet (fsep Table (owns (rows 14 (κs .1 .1)) z (values 14 z)))) ∷ []) ∵ enter ! (𝓣 .C) (𝓣 .Λ) code.function ({flat}) _ $
+        qed W ((‵ (flft (κs .0) (qs .0)) ⊛ (‵ (flft (κs .1 .0) (qs .1 .0)) ⊛ raw (toks 𝓤 A 14 (κs .1 .1) (qs .1 .1)))) ∷ ‵ (fsep Sheet (fsep ({FLOW_OWN}) (fsep Table (owns (rows 14 (κs .1 .1)) z (values 14 z))))) ∷ []) ∵ enter ! (𝓣 .C) (𝓣 .Λ) code.function ({flat}) _ $
 {closed(w.text())}
 """
     body += closing(
         "load-spec",
-        ["goes-none-slice 𝓤 H A W 16 (0 ∷ []) tt (plain (λ _. u8)) yes", "goes-gave-slice 𝓤 H A W 16 1 tt (plain (λ _. T.the-row))"] + [f"goes-gave-slice 𝓤 H A W 16 {j + 2} tt (plain (λ _. u32))" for j in range(n)],
-        ["slice-vals"] * 16,
-        ["shr-slice-tells (named 0) (κs .0) u8", "mut-slice-tells (named 1) (κs .1 .0) T.the-row"] + [f"mut-slice-tells (named {j + 2}) {part('κs', j + 2)} u32" for j in range(n)],
-        "κs qs (a .0) (a .1 .0) (a .1 .1) (are .0 .0 .1) (are .1 .0 .0 .1) " + tuple_of([f"are{' .1' * (j + 2)} .0 .0 .1" for j in range(n)]),
+        ["goes-none-slice 𝓤 H A W 16 (0 ∷ []) tt (plain (λ _. u8)) yes", "goes-none 𝓤 H A W 16 (λ _. u32) yes (λ κs x f. refl)", "goes-gave-slice 𝓤 H A W 16 1 tt (plain (λ _. T.the-row))"] + [f"goes-gave-slice 𝓤 H A W 16 {j + 2} tt (plain (λ _. u32))" for j in range(n)],
+        ["slice-vals", "uint-vals w32"] + ["slice-vals"] * 15,
+        ["shr-slice-tells (named 0) (κs .0) u8", "uint-tells w32", "mut-slice-tells (named 1) (κs .1 .0) T.the-row"] + [f"mut-slice-tells (named {j + 2}) {part('κs', j + 2)} u32" for j in range(n)],
+        "κs qs (a .0) (a .1 .0) (a .1 .1 .0) (a .1 .1 .1) (are .0 .0 .1) (are .1 .0 .1) (are .1 .1 .0 .0 .1) " + tuple_of([f"are{' .1' * (j + 3)} .0 .0 .1" for j in range(n)]),
         [("core", "Core", "calls-assembly·Loaded·assemble"), ("count", "Count", "calls-records·fill-count"), ("fill", "Fill", "calls-records·fill")],
     )
     write(
@@ -1060,14 +1066,14 @@ module _ {MODEL} {RUN} where
 
 
 def load_lists():
-    n, count = len(LISTS), 48
-    array, zeros, ref, lent = "_16", "_17", "_18", "_19"
+    n, count = len(LISTS), 49
+    array, zeros, ref, lent = "_17", "_18", "_19", "_20"
     tokens = "(‵ (flft (κs .0) (qs .0)) ⊛ raw (toks 𝓤 A 14 (κs .1) (qs .1)))"
     all_tokens = "(‵ (flft (κs .0) (qs .0)) ⊛ (‵ (flft (α ∷ []) fullShare) ⊛ raw (toks 𝓤 A 14 (κs .1) (qs .1))))"
     w = Trace(own_locals(count) + ["tokens", "owns"])
     w.line(allocate(count))
-    rooms = ["y-room"] + [part("z-room", j) for j in range(n)]
-    w.line("".join(f"pass1 ! (init ! {w.at(f'_{i + 1}')} refl {slice_fits(f'{room} .0')}) $ " for i, room in enumerate(rooms)) + "pass0 ! $")
+    typed = [slice_fits("y-room .0"), fits("flow-fits")] + [slice_fits(f"{part('z-room', j)} .0") for j in range(n)]
+    w.line("".join(f"pass1 ! (init ! {w.at(f'_{i + 1}')} refl {fit}) $ " for i, fit in enumerate(typed)) + "pass0 ! $")
     w.assign(zeros, f"(agg ! {w.operands(['(lit ! tt)'] * len(FIELDS))})", REACH_TYPED.format("noReach", "none-is"))
     w.note("the array, and what it owns")
     w.line(f"owned ! T.the-row (Is T.the-row) {REACH_MAKES} noReach (none-val ∷ []) none-is $ use1 W (‵ (Array T.the-row 64 .own table (table-val ∷ []))) (array-repeat 𝓤 H A W T.the-row (LL.copy T.the-type T′.the-copy 𝓤 H A W) 64 noReach none-val) $")
@@ -1077,51 +1083,51 @@ def load_lists():
     w.assign(ref, "(addr ! (from ! (stop !)))", "(tt, tt)")
     w.assign(lent, f"(agg ! {w.operands([w.whole(ref), '(lit ! tt)'])})", slice_fits("lit< tt"))
     for j in range(n):
-        w.reborrow(f"_{2 + j}", f"_{20 + 2 * j}", f"_{21 + 2 * j}", part("z-room", j))
+        w.reborrow(f"_{3 + j}", f"_{21 + 2 * j}", f"_{22 + 2 * j}", part("z-room", j))
     w.note("the array is lent, for a lifetime α that is made here")
-    w.line(w.move(array, "array-owns") + "use2 W (‵ (cells (mem T.the-row) table l16 0)) (to-cells 𝓤 H A W l16) $ lft-new ! tt (λ α.")
+    w.line(w.move(array, "array-owns") + "use2 W (‵ (cells (mem T.the-row) table l17 0)) (to-cells 𝓤 H A W l17) $ lft-new ! tt (λ α.")
     w.replace(2, "lent-alive", "cells")
-    w.line(w.move("cells") + "use1 W (later (some (λ (γ : GName). ‵ (MutSlice (named 0) (α ∷ []) T.the-row .own (x l16 γ) (sliceVal (l16, 0) 64 ∷ [])) ⊛ ‵ (flent (α ∷ []) (Held T.the-row 64 l16 0 γ))))) (lends-slice 𝓤 H A W T.the-row (named 0) (α ∷ []) table l16 0 room64) $ await ! tt $ pick ! (λ γ. split ! $")
+    w.line(w.move("cells") + "use1 W (later (some (λ (γ : GName). ‵ (MutSlice (named 0) (α ∷ []) T.the-row .own (x l17 γ) (sliceVal (l17, 0) 64 ∷ [])) ⊛ ‵ (flent (α ∷ []) (Held T.the-row 64 l17 0 γ))))) (lends-slice 𝓤 H A W T.the-row (named 0) (α ∷ []) table l17 0 room64) $ await ! tt $ pick ! (λ γ. split ! $")
     w.replace(1, "table", "waits")
     w.note("`load`")
     w.line(
         w.split("tokens", "sheet-alive", "lists-alive") + w.join("lent-alive", "lists-alive", "others") + w.join("sheet-alive", "others", "alive")
-        + w.split("owns", "sheet", "lists", rule="fsplit") + w.join("table", "lists", "lists", rule="fjoin") + w.move("alive", "sheet", "lists")
+        + w.split("owns", "sheet", "others", rule="fsplit") + w.split("others", "flow", "lists", rule="fsplit") + w.drop("flow") + w.join("table", "lists", "lists", rule="fjoin") + w.move("alive", "sheet", "lists")
     )
-    w.line("use3 W (raw (Loading 𝓤 H A at-mem run .pre (to-load α l16 γ)) ⊛ ‵ Sheet) (goes-load α l16 γ) $ split ! $")
+    w.line("use3 W (raw (Loading 𝓤 H A at-mem run .pre (to-load α l17 γ)) ⊛ ‵ Sheet) (goes-load α l17 γ) $ split ! $")
     w.replace(3, "pre", "sheet")
-    w.line(f"calls-at ! fm (Loading 𝓤 H A at-mem run) known-loading (to-load α l16 γ) {w.locals('_1', lent, *[f'_{21 + 2 * j}' for j in range(n)])} (λ u.")
-    w.line(f"use1 W (later (some (λ (r : Load). ({all_tokens} ⊛ ‵ (S.the-row .own r (u ∷ []))) ⊛ raw (ensured 𝓤 H A loading.ended (loading.clauses 𝓤 H A at-mem run) (load-κs α) (load-args l16 γ) tt r)))) (id⊢ 𝓤 _) $ await ! tt $ pick ! (λ r.")
+    w.line(f"calls-at ! fm (Loading 𝓤 H A at-mem run) known-loading (to-load α l17 γ) {w.locals('_1', '_2', lent, *[f'_{22 + 2 * j}' for j in range(n)])} (λ u.")
+    w.line(f"use1 W (later (some (λ (r : Load). ({all_tokens} ⊛ ‵ (S.the-row .own r (u ∷ []))) ⊛ raw (ensured 𝓤 H A loading.ended (loading.clauses 𝓤 H A at-mem run) (load-κs α) (load-args l17 γ) tt r)))) (id⊢ 𝓤 _) $ await ! tt $ pick ! (λ r.")
     w.replace(1, "result", "says")
-    text = "split ! $ " + w.move("says") + "use1 W (some (λ (ws : Unit {0} × (List Reach × Lists 14)). ‵ (lasts loading.ended (load-κs α) (load-args l16 γ) ws) ⊛ (raw (fact 𝓤 (Answer r)) ⊛ (raw (fact 𝓤 (Written (ws .1 .1))) ⊛ raw (fact 𝓤 (Filled (ws .1 .0))))))) (id⊢ 𝓤 _) $ pick ! (λ ws. split ! $ "
+    text = "split ! $ " + w.move("says") + "use1 W (some (λ (ws : Unit {0} × (Unit {0} × (List Reach × Lists 14))). ‵ (lasts loading.ended (load-κs α) (load-args l17 γ) ws) ⊛ (raw (fact 𝓤 (Answer r)) ⊛ (raw (fact 𝓤 (Written (ws .1 .1 .1))) ⊛ raw (fact 𝓤 (Filled (ws .1 .1 .0))))))) (id⊢ 𝓤 _) $ pick ! (λ ws. split ! $ "
     w.replace(1, "lasts", "says")
     text += w.split("says", "answers", "says") + "heard ! (Answer r) (λ answers. "
     w.replace(1)
-    w.line(text + w.split("says", "writes", "says") + "heard ! (Written (ws .1 .1)) (λ writes. drop ! $")
+    w.line(text + w.split("says", "writes", "says") + "heard ! (Written (ws .1 .1 .1)) (λ writes. drop ! $")
     w.replace(2)
-    text = "fsplit ! $ drop ! $ fsplit ! $ fsplit ! $ "
+    text = "fsplit ! $ drop ! $ fsplit ! $ drop ! $ fsplit ! $ fsplit ! $ "
     w.replace(1, "table", "as-long", "lists")
     text += w.move("as-long") + "feqL ! (λ long. "
     w.replace(1)
-    text += w.move("lists") + "use1 W (‵ (last 14 z (ws .1 .1)) ⊛ raw (fact 𝓤 (Same 14 z (ws .1 .1)))) (heard-last 𝓤 H A W 14 z (ws .1 .1)) $ split ! $ "
+    text += w.move("lists") + "use1 W (‵ (last 14 z (ws .1 .1 .1)) ⊛ raw (fact 𝓤 (Same 14 z (ws .1 .1 .1)))) (heard-last 𝓤 H A W 14 z (ws .1 .1 .1)) $ split ! $ "
     w.replace(1, "lists", "same")
-    w.line(text + w.move("same") + "heard ! (Same 14 z (ws .1 .1)) (λ same.")
+    w.line(text + w.move("same") + "heard ! (Same 14 z (ws .1 .1 .1)) (λ same.")
     w.replace(1)
     w.line(w.split("result", "alive", "answer") + w.move("answer") + f"peeks ! S.the-row (Is S.the-row) (shows 𝓤 H A S.the-row) r (u ∷ []) (λ is. land ! (from ! (stop !)) (init ! {w.at('_0')} refl {ANSWER_TYPED}) $")
     w.note("the lifetime ends, and the array is the function's own again")
     text = w.split("alive", "sheet-alive", "others") + w.split("others", "lent-alive", "lists-alive") + w.join("sheet-alive", "lists-alive", "tokens") + w.move("lent-alive") + "lft-end ! tt $ "
     w.replace(1, "dead")
     w.line(text + w.move("dead", "waits", "table"))
-    w.line("use3 W (later (‵ (Arr (mem T.the-row) 64 .lies (ws .1 .0) l16 0))) (slice-back 𝓤 H A W T.the-row (α ∷ []) γ (ws .1 .0) 64 l16 0) $ await ! tt $ use1 W (‵ (froom (tyArray T′.mir 64) l16 0)) (from-cells 𝓤 H A W l16 (ws .1 .0)) $")
+    w.line("use3 W (later (‵ (Arr (mem T.the-row) 64 .lies (ws .1 .1 .0) l17 0))) (slice-back 𝓤 H A W T.the-row (α ∷ []) γ (ws .1 .1 .0) 64 l17 0) $ await ! tt $ use1 W (‵ (froom (tyArray T′.mir 64) l17 0)) (from-cells 𝓤 H A W l17 (ws .1 .1 .0)) $")
     w.replace(3, array)
     lists = [slice_value(part("z", j)) for j in range(n)]
-    w.leave(["u", SHEET, *lists, None, "none-val", "vptr l16 0", "sliceVal (l16, 0) 64"] + [v for j in range(n) for v in (pointer(part("z", j)), lists[j])])
-    w.line(w.keep("tokens", "sheet", "lists", "answer") + "by ! (exits r u (ws .1 .1) answers writes same)")
+    w.leave(["u", SHEET, FLOW, *lists, None, "none-val", "vptr l17 0", "sliceVal (l17, 0) 64"] + [v for j in range(n) for v in (pointer(part("z", j)), lists[j])])
+    w.line(w.keep("tokens", "sheet", "lists", "answer") + "by ! (exits r u (ws .1 .1 .1) answers writes same)")
 
-    flat = items([SHEET, *lists])
+    flat = items([SHEET, FLOW, *lists])
     kept = f"{tokens} ∷ ‵ Sheet ∷ ‵ (last 14 z ws) ∷ ‵ (S.the-row .own r (u ∷ [])) ∷ []"
     body = f"""abbrev stayed : Stays (the-fn.ended .signature .params) (the-fn.ended .kept)
-stayed = {tuple_of(["stay-none-slice (0 ∷ []) tt (plain (λ _. u8)) yes"] + [f"gave-slice ({j + 1} ∷ []) tt (plain (λ _. u32))" for j in range(n)])}
+stayed = {tuple_of(["stay-none-slice (0 ∷ []) tt (plain (λ _. u8)) yes", "stay-none (λ _. u32) yes"] + [f"gave-slice ({j + 1} ∷ []) tt (plain (λ _. u32))" for j in range(n)])}
 
 -- the function's own list of reach records
 abbrev table : List Reach
@@ -1166,12 +1172,12 @@ module _ {MODEL} {RUN} where
   Loading = tripleOf 𝓤 H A loading.signature (loading.spec 𝓤 H A at-mem run)
 
 module _ {MODEL} (W : Given 𝓤 H A) {RUN}
-    (κs : Lfts 15) (qs : Shares 15) (y : RefT (List ℕ)) (z : Refs 14) (y-room : Room u8 (length (y .now))) (z-room : Rooms 14 z) where
-  abbrev a : RefT (List ℕ) × Refs 14
-  a = (y, z)
+    (κs : Lfts 15) (qs : Shares 15) (y : RefT (List ℕ)) (flow : ℕ) (z : Refs 14) (y-room : Room u8 (length (y .now))) (flow-fits : flow < 2 ^ 32) (z-room : Rooms 14 z) where
+  abbrev a : RefT (List ℕ) × (ℕ × Refs 14)
+  a = (y, (flow, z))
 
-  abbrev at : List Val × Values 14
-  at = ({SHEET} ∷ [], values 14 z)
+  abbrev at : List Val × (List Val × Values 14)
+  at = ({SHEET} ∷ [], ({FLOW} ∷ [], values 14 z))
 
   abbrev Post : Val → SProp 𝓤
   Post = walkOf 𝓤 H A the-fn.ended stayed (the-fn.clauses 𝓤 H A at-mem run) .post ((κs, qs, tt, a, at), tt)
@@ -1186,11 +1192,11 @@ module _ {MODEL} (W : Given 𝓤 H A) {RUN}
   abbrev load-κs : ℕ → Lfts 16
   load-κs α = (κs .0, (α ∷ [], κs .1))
 
-  abbrev load-args : ℕ → GName → RefT (List ℕ) × (RefT (List Reach) × Refs 14)
-  load-args l γ = (y, (x l γ, z))
+  abbrev load-args : ℕ → GName → RefT (List ℕ) × (ℕ × (RefT (List Reach) × Refs 14))
+  load-args l γ = (y, (flow, (x l γ, z)))
 
   abbrev to-load : ℕ → ℕ → GName → Loading 𝓤 H A at-mem run .Ghost
-  to-load α l γ = ((load-κs α, (qs .0, (fullShare, qs .1)), tt, load-args l γ, ({SHEET} ∷ [], (sliceVal (l, 0) 64 ∷ [], values 14 z))), tt)
+  to-load α l γ = ((load-κs α, (qs .0, (fullShare, qs .1)), tt, load-args l γ, ({SHEET} ∷ [], ({FLOW} ∷ [], (sliceVal (l, 0) 64 ∷ [], values 14 z)))), tt)
 
   abbrev Lent : ℕ → ℕ → GName → Fml
   Lent α l γ = fsep (MutSlice (named 0) (α ∷ []) T.the-row .own (x l γ) (sliceVal (l, 0) 64 ∷ [])) (owns (rows 14 (κs .1)) z (values 14 z))
@@ -1198,22 +1204,22 @@ module _ {MODEL} (W : Given 𝓤 H A) {RUN}
   goes-load : (α l : ℕ) (γ : GName) → ent 𝓤 (sep 𝓤 (sep 𝓤 (A .lft (κs .0) (qs .0)) (sep 𝓤 (A .lft (α ∷ []) fullShare) (toks 𝓤 A 14 (κs .1) (qs .1)))) (sep 𝓤 (sem 𝓤 H A Sheet) (sem 𝓤 H A (Lent α l γ)))) (sep 𝓤 (Loading 𝓤 H A at-mem run .pre (to-load α l γ)) (sem 𝓤 H A Sheet))
   goes-load α l γ =
       qed W ({all_tokens} ∷ ‵ Sheet ∷ ‵ (Lent α l γ) ∷ []) ∵ move ! (1 ∷ []) $
-      use1 W (‵ Sheet ⊛ ‵ Sheet) (shr-slice-copy 𝓤 H A W (named 0) (κs .0) u8 .twice y ({SHEET} ∷ [])) $ split ! $ move ! (0 ∷ 3 ∷ []) $ fjoin ! $ move ! (2 ∷ 0 ∷ []) $
-      use2 W (raw (Loading 𝓤 H A at-mem run .pre (to-load α l γ))) (qed W ({all_tokens} ∷ ‵ (fsep Sheet (Lent α l γ)) ∷ []) ∵ join ! $ frame ! $ done !) $ frame ! $ done !
+      use1 W (‵ Sheet ⊛ ‵ Sheet) (shr-slice-copy 𝓤 H A W (named 0) (κs .0) u8 .twice y ({SHEET} ∷ [])) $ split ! $ move ! (3 ∷ []) $ {FLOW_OWNED} $ fjoin ! $ move ! (1 ∷ 0 ∷ []) $ fjoin ! $ move ! (2 ∷ 0 ∷ []) $
+      use2 W (raw (Loading 𝓤 H A at-mem run .pre (to-load α l γ))) (qed W ({all_tokens} ∷ ‵ (fsep Sheet (fsep ({FLOW_OWN}) (Lent α l γ))) ∷ []) ∵ join ! $ frame ! $ done !) $ frame ! $ done !
 
   abbrev Answer : Load → Type 0
-  Answer r = loadSays r ≡ loadAnswer (y .now) 64 (before z)
+  Answer r = loadSays r ≡ loadAnswer (y .now) flow 64 (before z)
 
   abbrev Written : Lists 14 → Type 0
-  Written ws = after ws ≡ loadColumns (y .now) 64 (before z)
+  Written ws = after ws ≡ loadColumns (y .now) flow 64 (before z)
 
   abbrev Filled : List Reach → Type 0
-  Filled zs = map reachSays zs ≡ loadRecords (y .now) (map reachSays table) (before z)
+  Filled zs = map reachSays zs ≡ loadRecords (y .now) flow (map reachSays table) (before z)
 
   exits : (r : Load) (u : Val) (ws : Lists 14) → Answer r → Written ws → Same 14 z ws → ent 𝓤 (⋆ 𝓤 H A ({kept})) (Post u)
   exits r u ws answers writes same =
-      qed W ({kept}) ∵ suffices ! _ (ends-at 𝓤 H A the-fn.ended stayed (the-fn.clauses 𝓤 H A at-mem run) W ((κs, qs, tt, a, at), tt) u r (tt, ws) (tt, same)) $
-      says-all ! (and-fact 𝓤 answers (and-fact 𝓤 writes (one-fact 𝓤 (λ records enough. answers ∙ room (y .now) (before z) records enough)))) $ frame ! $ fjoin ! $ frame ! $ done !
+      qed W ({kept}) ∵ suffices ! _ (ends-at 𝓤 H A the-fn.ended stayed (the-fn.clauses 𝓤 H A at-mem run) W ((κs, qs, tt, a, at), tt) u r (tt, (tt, ws)) (tt, (tt, same))) $
+      says-all ! (and-fact 𝓤 answers (and-fact 𝓤 writes (one-fact 𝓤 (λ records enough. answers ∙ room (y .now) flow (before z) records enough)))) $ frame ! $ move ! (1 ∷ []) $ {FLOW_OWNED} $ fjoin ! $ move ! (1 ∷ 0 ∷ []) $ fjoin ! $ frame ! $ done !
 
   module _ (𝓣 : Tables 𝓤 H) (known-loading : Triple 𝓤 (𝓣 .C #loading) (Loading 𝓤 H A at-mem run)) where
     abbrev fm : FmC 𝓤 H (W .laws) (𝓣 .C)
@@ -1221,15 +1227,15 @@ module _ {MODEL} (W : Given 𝓤 H A) {RUN}
 
     trace : ent 𝓤 (onEntry 𝓤 H A the-fn.signature κs qs a at) (WpFn 𝓤 H (𝓣 .C) (𝓣 .Λ) code.function ({flat}) Post)
     trace =
-        qed W ({tokens} ∷ ‵ (fsep Sheet (owns (rows 14 (κs .1)) z (values 14 z))) ∷ []) ∵ enter ! (𝓣 .C) (𝓣 .Λ) code.function ({flat}) _ $
+        qed W ({tokens} ∷ ‵ (fsep Sheet (fsep ({FLOW_OWN}) (owns (rows 14 (κs .1)) z (values 14 z)))) ∷ []) ∵ enter ! (𝓣 .C) (𝓣 .Λ) code.function ({flat}) _ $
 {closed(w.text())}
 """
     body += closing(
         "load-lists-spec",
-        ["goes-none-slice 𝓤 H A W 15 (0 ∷ []) tt (plain (λ _. u8)) yes"] + [f"goes-gave-slice 𝓤 H A W 15 {j + 1} tt (plain (λ _. u32))" for j in range(n)],
-        ["slice-vals"] * 15,
-        ["shr-slice-tells (named 0) (κs .0) u8"] + [f"mut-slice-tells (named {j + 1}) {part('κs', j + 1)} u32" for j in range(n)],
-        "κs qs (a .0) (a .1) (are .0 .0 .1) " + tuple_of([f"are{' .1' * (j + 1)} .0 .0 .1" for j in range(n)]),
+        ["goes-none-slice 𝓤 H A W 15 (0 ∷ []) tt (plain (λ _. u8)) yes", "goes-none 𝓤 H A W 15 (λ _. u32) yes (λ κs x f. refl)"] + [f"goes-gave-slice 𝓤 H A W 15 {j + 1} tt (plain (λ _. u32))" for j in range(n)],
+        ["slice-vals", "uint-vals w32"] + ["slice-vals"] * 14,
+        ["shr-slice-tells (named 0) (κs .0) u8", "uint-tells w32"] + [f"mut-slice-tells (named {j + 1}) {part('κs', j + 1)} u32" for j in range(n)],
+        "κs qs (a .0) (a .1 .0) (a .1 .1) (are .0 .0 .1) (are .1 .0 .1) " + tuple_of([f"are{' .1' * (j + 2)} .0 .0 .1" for j in range(n)]),
         [("loading", "Loading", "calls-loading·load")],
     )
     write(
@@ -1253,47 +1259,47 @@ def outs(f):
 
 
 def exported_load():
-    n, count = len(LISTS), 57
-    sheet, table, lists, answer, unit = "_5", "_6", [f"_{7 + j}" for j in range(n)], "_21", "_52"
+    n, count = len(LISTS), 58
+    sheet, flow, table, lists, answer, unit = "_5", "_6", "_7", [f"_{8 + j}" for j in range(n)], "_22", "_53"
     ref = lambda k: f"o{k}"
     values = [slice_value(part("z", j)) for j in range(n)]
     w = Trace(own_locals(count) + ["tokens", "owns"])
     w.line(allocate(count))
     w.line("".join(f"pass1 ! (init ! {w.at(f'_{1 + k}')} refl (tt, tt)) $ " for k in range(4)))
-    rooms = ["y-room", "x-room"] + [part("z-room", j) for j in range(n)]
-    w.line("".join(f"pass1 ! (init ! {w.at(f'_{5 + i}')} refl {slice_fits(f'{room} .0')}) $ " for i, room in enumerate(rooms)) + "pass0 ! $")
-    w.reborrow(table, "_22", "_23", "x-room")
+    typed = [slice_fits("y-room .0"), fits("flow-fits"), slice_fits("x-room .0")] + [slice_fits(f"{part('z-room', j)} .0") for j in range(n)]
+    w.line("".join(f"pass1 ! (init ! {w.at(f'_{5 + i}')} refl {fit}) $ " for i, fit in enumerate(typed)) + "pass0 ! $")
+    w.reborrow(table, "_23", "_24", "x-room")
     for j in range(n):
-        w.reborrow(lists[j], f"_{24 + 2 * j}", f"_{25 + 2 * j}", part("z-room", j))
+        w.reborrow(lists[j], f"_{25 + 2 * j}", f"_{26 + 2 * j}", part("z-room", j))
     w.note("`loading::load`")
     text = ""
     for k, name in enumerate(OUT):
         text += w.split("tokens", f"{name}-alive", "tokens") + w.split("owns", name, "owns", rule="fsplit")
-    w.line(text + w.split("owns", "sheet", "owns", rule="fsplit") + w.move("tokens", "sheet", "owns"))
+    w.line(text + w.split("owns", "sheet", "owns", rule="fsplit") + w.split("owns", "flow", "owns", rule="fsplit") + w.drop("flow") + w.move("tokens", "sheet", "owns"))
     w.line("use3 W (raw (Loading 𝓤 H A at-mem run .pre to-load) ⊛ ‵ Sheet) goes-load $ split ! $")
     w.replace(3, "pre", "sheet")
-    w.line(f"calls-at ! fm (Loading 𝓤 H A at-mem run) known-loading to-load {w.locals(sheet, '_23', *[f'_{25 + 2 * j}' for j in range(n)])} (λ u.")
+    w.line(f"calls-at ! fm (Loading 𝓤 H A at-mem run) known-loading to-load {w.locals(sheet, flow, '_24', *[f'_{26 + 2 * j}' for j in range(n)])} (λ u.")
     w.line("use1 W (later (some (λ (r : Load). (raw (toks 𝓤 A 16 κs qs) ⊛ ‵ (S.the-row .own r (u ∷ []))) ⊛ raw (ensured 𝓤 H A loading.ended (loading.clauses 𝓤 H A at-mem run) κs load-args tt r)))) (id⊢ 𝓤 _) $ await ! tt $ pick ! (λ r.")
     w.replace(1, "result", "says")
-    text = "split ! $ " + w.move("says") + "use1 W (some (λ (ws : Unit {0} × (List Reach × Lists 14)). ‵ (lasts loading.ended κs load-args ws) ⊛ (raw (fact 𝓤 (Answer r)) ⊛ (raw (fact 𝓤 (Written (ws .1 .1))) ⊛ raw (fact 𝓤 (Filled (ws .1 .0))))))) (id⊢ 𝓤 _) $ pick ! (λ ws. split ! $ "
+    text = "split ! $ " + w.move("says") + "use1 W (some (λ (ws : Unit {0} × (Unit {0} × (List Reach × Lists 14))). ‵ (lasts loading.ended κs load-args ws) ⊛ (raw (fact 𝓤 (Answer r)) ⊛ (raw (fact 𝓤 (Written (ws .1 .1 .1))) ⊛ raw (fact 𝓤 (Filled (ws .1 .1 .0))))))) (id⊢ 𝓤 _) $ pick ! (λ ws. split ! $ "
     w.replace(1, "lasts", "says")
     text += w.split("says", "answers", "says") + "heard ! (Answer r) (λ answers. "
     w.replace(1)
-    text += w.split("says", "writes", "fills") + "heard ! (Written (ws .1 .1)) (λ writes. "
+    text += w.split("says", "writes", "fills") + "heard ! (Written (ws .1 .1 .1)) (λ writes. "
     w.replace(1)
-    w.line(text + "heard ! (Filled (ws .1 .0)) (λ fills.")
+    w.line(text + "heard ! (Filled (ws .1 .1 .0)) (λ fills.")
     w.replace(1)
-    text = w.move("lasts") + "fsplit ! $ drop ! $ fsplit ! $ fsplit ! $ "
+    text = w.move("lasts") + "fsplit ! $ drop ! $ fsplit ! $ drop ! $ fsplit ! $ fsplit ! $ "
     w.replace(1, "table", "as-long", "lists")
     text += w.move("as-long") + "feqL ! (λ long. "
     w.replace(1)
-    text += w.move("lists") + "use1 W (‵ (last 14 z (ws .1 .1)) ⊛ raw (fact 𝓤 (Same 14 z (ws .1 .1)))) (heard-last 𝓤 H A W 14 z (ws .1 .1)) $ split ! $ "
+    text += w.move("lists") + "use1 W (‵ (last 14 z (ws .1 .1 .1)) ⊛ raw (fact 𝓤 (Same 14 z (ws .1 .1 .1)))) (heard-last 𝓤 H A W 14 z (ws .1 .1 .1)) $ split ! $ "
     w.replace(1, "lists", "same")
-    w.line(text + w.move("same") + "heard ! (Same 14 z (ws .1 .1)) (λ same.")
+    w.line(text + w.move("same") + "heard ! (Same 14 z (ws .1 .1 .1)) (λ same.")
     w.replace(1)
     w.line(w.split("result", "tokens", "answer") + w.move("answer") + f"peeks ! S.the-row (Is S.the-row) (shows 𝓤 H A S.the-row) r (u ∷ []) (λ is. land ! (from ! (stop !)) (init ! {w.at(answer)} refl {ANSWER_TYPED}) $")
     for k in range(4):
-        w.assign(f"_{53 + k}", f"(addr ! (from ! (hop ! (look ! {w.at(f'_{1 + k}')} refl) (stop !))))", "(tt, tt)")
+        w.assign(f"_{54 + k}", f"(addr ! (from ! (hop ! (look ! {w.at(f'_{1 + k}')} refl) (stop !))))", "(tt, tt)")
     w.note("`put_load`")
     text = "nothing ! $ "
     w.replace(0, "others")
@@ -1306,7 +1312,7 @@ def exported_load():
     w.line(text + w.move("others", "owns"))
     w.line("use2 W (raw (Put 𝓤 H A at-mem run .pre (to-put r u))) (goes-put r u) $")
     w.replace(2, "pre")
-    w.line(f"calls-at ! fm (Put 𝓤 H A at-mem run) known-put (to-put r u) {w.locals(answer, *[f'_{53 + k}' for k in range(4)])} (λ w.")
+    w.line(f"calls-at ! fm (Put 𝓤 H A at-mem run) known-put (to-put r u) {w.locals(answer, *[f'_{54 + k}' for k in range(4)])} (λ w.")
     tokens4 = "(" + " ⊛ (".join(outs(lambda k: f"‵ (flft κ{k} q{k})")) + " ⊛ ‵ ftrue" + ")" * 4
     w.line(f"use1 W (later (some (λ (t : Unit {{0}}). ({tokens4} ⊛ ‵ (Nothing .own t (w ∷ []))) ⊛ raw (ensured 𝓤 H A put.ended (put.clauses 𝓤 H A at-mem run) put-κs (put-args r) tt t)))) (id⊢ 𝓤 _) $ await ! tt $ pick ! (λ t.")
     w.replace(1, "result", "says")
@@ -1332,18 +1338,18 @@ def exported_load():
     w.replace(1)
     w.assign("_0", "(of-opd ! (unit-lit !))", "(tt, tt)")
     w.leave(
-        ["vunit"] + outs(lambda k: pointer(ref(k))) + [SHEET, slice_value("x"), *values] + ["u", pointer("x"), slice_value("x")]
+        ["vunit"] + outs(lambda k: pointer(ref(k))) + [SHEET, FLOW, slice_value("x"), *values] + ["u", pointer("x"), slice_value("x")]
         + [v for j in range(n) for v in (pointer(part("z", j)), values[j])] + ["w"] + outs(lambda k: pointer(ref(k)))
     )
-    w.line(w.keep("tokens", *OUT, "sheet", "table", "lists") + "by ! (exits r (vs .1) (ws .1 .0) (ws .1 .1) answers writes fills tells hands long same)")
+    w.line(w.keep("tokens", *OUT, "sheet", "table", "lists") + "by ! (exits r (vs .1) (ws .1 .1 .0) (ws .1 .1 .1) answers writes fills tells hands long same)")
 
-    flat = items(outs(lambda k: pointer(ref(k))) + [SHEET, slice_value("x"), *values])
+    flat = items(outs(lambda k: pointer(ref(k))) + [SHEET, FLOW, slice_value("x"), *values])
     all_tokens = "(" + " ⊛ (".join(outs(lambda k: f"‵ (flft κ{k} q{k})")) + " ⊛ raw (toks 𝓤 A 16 κs qs)" + ")" * 4
-    row = lambda k: "u32" if k < 3 else "(Array u32 7)"
-    slot = lambda k: "(plain (λ _. u32))" if k < 3 else "(arrayOf (plain (λ _. u32)) 7)"
+    row = lambda k: "u32" if k < 3 else "(Array u32 9)"
+    slot = lambda k: "(plain (λ _. u32))" if k < 3 else "(arrayOf (plain (λ _. u32)) 9)"
     last = lambda k: f"fres ({ref(k)} .name) ({row(k)} .coded .code ({'vs' + ' .1' * k + ' .0'}))"
     kept = f"{all_tokens} ∷ " + "".join(f"‵ ({last(k)}) ∷ " for k in range(4)) + "‵ Sheet ∷ ‵ (finally T.the-row (x .name) zs) ∷ ‵ (last 14 z ws) ∷ []"
-    stays = outs(lambda k: f"gave-ref ({k} ∷ []) tt {slot(k)}") + ["stay-none-slice (4 ∷ []) tt (plain (λ _. u8)) yes", "gave-slice (5 ∷ []) tt (plain (λ _. T.the-row))"] + [f"gave-slice ({j + 6} ∷ []) tt (plain (λ _. u32))" for j in range(n)]
+    stays = outs(lambda k: f"gave-ref ({k} ∷ []) tt {slot(k)}") + ["stay-none-slice (4 ∷ []) tt (plain (λ _. u8)) yes", "stay-none (λ _. u32) yes", "gave-slice (5 ∷ []) tt (plain (λ _. T.the-row))"] + [f"gave-slice ({j + 6} ∷ []) tt (plain (λ _. u32))" for j in range(n)]
     whole_κ = tuple_of(outs(lambda k: f"κ{k}"), "κs")
     whole_q = tuple_of(outs(lambda k: f"q{k}"), "qs")
     own = lambda k: f"MutRef (named 0) κ{k} {row(k)} .own {ref(k)} ({pointer(ref(k))} ∷ [])"
@@ -1365,17 +1371,17 @@ module _ {MODEL} {RUN} where
   Put = tripleOf 𝓤 H A put.signature (put.spec 𝓤 H A at-mem run)
 
 module _ {MODEL} (W : Given 𝓤 H A) {RUN}
-    (κ0 κ1 κ2 κ3 : Lft) (κs : Lfts 16) (q0 q1 q2 q3 : Share) (qs : Shares 16) (o0 o1 o2 : RefT ℕ) (o3 : RefT (List ℕ)) (y : RefT (List ℕ)) (x : RefT (List Reach)) (z : Refs 14) (y-room : Room u8 (length (y .now))) (x-room : Room T.the-row (length (x .now))) (z-room : Rooms 14 z) where
-  abbrev load-args : RefT (List ℕ) × (RefT (List Reach) × Refs 14)
-  load-args = (y, (x, z))
+    (κ0 κ1 κ2 κ3 : Lft) (κs : Lfts 16) (q0 q1 q2 q3 : Share) (qs : Shares 16) (o0 o1 o2 : RefT ℕ) (o3 : RefT (List ℕ)) (y : RefT (List ℕ)) (flow : ℕ) (x : RefT (List Reach)) (z : Refs 14) (y-room : Room u8 (length (y .now))) (flow-fits : flow < 2 ^ 32) (x-room : Room T.the-row (length (x .now))) (z-room : Rooms 14 z) where
+  abbrev load-args : RefT (List ℕ) × (ℕ × (RefT (List Reach) × Refs 14))
+  load-args = (y, (flow, (x, z)))
 
-  abbrev load-at : List Val × (List Val × Values 14)
-  load-at = ({SHEET} ∷ [], ({slice_value('x')} ∷ [], values 14 z))
+  abbrev load-at : List Val × (List Val × (List Val × Values 14))
+  load-at = ({SHEET} ∷ [], ({FLOW} ∷ [], ({slice_value('x')} ∷ [], values 14 z)))
 
-  abbrev a : RefT ℕ × (RefT ℕ × (RefT ℕ × (RefT (List ℕ) × (RefT (List ℕ) × (RefT (List Reach) × Refs 14)))))
+  abbrev a : RefT ℕ × (RefT ℕ × (RefT ℕ × (RefT (List ℕ) × (RefT (List ℕ) × (ℕ × (RefT (List Reach) × Refs 14))))))
   a = {tuple_of(outs(ref), "load-args")}
 
-  abbrev at : List Val × (List Val × (List Val × (List Val × (List Val × (List Val × Values 14)))))
+  abbrev at : List Val × (List Val × (List Val × (List Val × (List Val × (List Val × (List Val × Values 14))))))
   at = {tuple_of(outs(lambda k: f"{pointer(ref(k))} ∷ []"), "load-at")}
 
   abbrev Post : Val → SProp 𝓤
@@ -1394,17 +1400,17 @@ module _ {MODEL} (W : Given 𝓤 H A) {RUN}
   goes-load : ent 𝓤 (sep 𝓤 (toks 𝓤 A 16 κs qs) (sep 𝓤 (sem 𝓤 H A Sheet) (sem 𝓤 H A Lent))) (sep 𝓤 (Loading 𝓤 H A at-mem run .pre to-load) (sem 𝓤 H A Sheet))
   goes-load =
       qed W (raw (toks 𝓤 A 16 κs qs) ∷ ‵ Sheet ∷ ‵ Lent ∷ []) ∵ move ! (1 ∷ []) $
-      use1 W (‵ Sheet ⊛ ‵ Sheet) (shr-slice-copy 𝓤 H A W (named 0) (κs .0) u8 .twice y ({SHEET} ∷ [])) $ split ! $ move ! (0 ∷ 3 ∷ []) $ fjoin ! $ move ! (2 ∷ 0 ∷ []) $
-      use2 W (raw (Loading 𝓤 H A at-mem run .pre to-load)) (qed W (raw (toks 𝓤 A 16 κs qs) ∷ ‵ (fsep Sheet Lent) ∷ []) ∵ join ! $ frame ! $ done !) $ frame ! $ done !
+      use1 W (‵ Sheet ⊛ ‵ Sheet) (shr-slice-copy 𝓤 H A W (named 0) (κs .0) u8 .twice y ({SHEET} ∷ [])) $ split ! $ move ! (3 ∷ []) $ {FLOW_OWNED} $ fjoin ! $ move ! (1 ∷ 0 ∷ []) $ fjoin ! $ move ! (2 ∷ 0 ∷ []) $
+      use2 W (raw (Loading 𝓤 H A at-mem run .pre to-load)) (qed W (raw (toks 𝓤 A 16 κs qs) ∷ ‵ (fsep Sheet (fsep ({FLOW_OWN}) Lent)) ∷ []) ∵ join ! $ frame ! $ done !) $ frame ! $ done !
 
   abbrev Answer : Load → Type 0
-  Answer r = loadSays r ≡ loadAnswer (y .now) (length (x .now)) (before z)
+  Answer r = loadSays r ≡ loadAnswer (y .now) flow (length (x .now)) (before z)
 
   abbrev Written : Lists 14 → Type 0
-  Written ws = after ws ≡ loadColumns (y .now) (length (x .now)) (before z)
+  Written ws = after ws ≡ loadColumns (y .now) flow (length (x .now)) (before z)
 
   abbrev Filled : List Reach → Type 0
-  Filled zs = map reachSays zs ≡ loadRecords (y .now) (map reachSays (x .now)) (before z)
+  Filled zs = map reachSays zs ≡ loadRecords (y .now) flow (map reachSays (x .now)) (before z)
 
   -- `put_load`
   abbrev put-κs : Lfts 4
@@ -1429,9 +1435,9 @@ module _ {MODEL} (W : Given 𝓤 H A) {RUN}
       ent 𝓤 (⋆ 𝓤 H A ({kept})) (Post vunit)
   exits r vs zs ws answers writes fills tells hands long same =
       qed W ({kept}) ∵
-      suffices ! _ (ends-at 𝓤 H A the-fn.ended stayed (the-fn.clauses 𝓤 H A at-mem run) W (({whole_κ}, {whole_q}, tt, a, at), tt) vunit tt (vs .0, (vs .1 .0, (vs .1 .1 .0, (vs .1 .1 .1 .0, (tt, (zs, ws)))))) (tt, (tt, (tt, (tt, (tt, (long, same))))))) $
+      suffices ! _ (ends-at 𝓤 H A the-fn.ended stayed (the-fn.clauses 𝓤 H A at-mem run) W (({whole_κ}, {whole_q}, tt, a, at), tt) vunit tt (vs .0, (vs .1 .0, (vs .1 .1 .0, (vs .1 .1 .1 .0, (tt, (tt, (zs, ws))))))) (tt, (tt, (tt, (tt, (tt, (tt, (long, same)))))))) $
       says-all ! (and-fact 𝓤 (subst (λ o. Told (foundBy o) (vs .0) (vs .1 .0) (vs .1 .1 .0)) answers tells) (and-fact 𝓤 (hands ∙ ap (λ o. handed o loadedValues (o3 .now)) answers) (and-fact 𝓤 writes (one-fact 𝓤 fills)))) $ frame ! $
-      move ! (5 ∷ 6 ∷ []) $ fjoin ! $ move ! (5 ∷ 0 ∷ []) $ fjoin ! $ move ! (4 ∷ 0 ∷ []) $ fjoin ! $ move ! (3 ∷ 0 ∷ []) $ fjoin ! $ move ! (2 ∷ 0 ∷ []) $ fjoin ! $ move ! (1 ∷ 0 ∷ []) $ fjoin ! $
+      move ! (5 ∷ 6 ∷ []) $ fjoin ! $ {FLOW_OWNED} $ fjoin ! $ move ! (5 ∷ 0 ∷ []) $ fjoin ! $ move ! (4 ∷ 0 ∷ []) $ fjoin ! $ move ! (3 ∷ 0 ∷ []) $ fjoin ! $ move ! (2 ∷ 0 ∷ []) $ fjoin ! $ move ! (1 ∷ 0 ∷ []) $ fjoin ! $
       frame ! $ feqI ! (List Val) (vunit ∷ []) (vunit ∷ []) refl $ done !
 
   module _ (𝓣 : Tables 𝓤 H) (known-loading : Triple 𝓤 (𝓣 .C #loading) (Loading 𝓤 H A at-mem run)) (known-put : Triple 𝓤 (𝓣 .C #put) (Put 𝓤 H A at-mem run)) where
@@ -1440,24 +1446,24 @@ module _ {MODEL} (W : Given 𝓤 H A) {RUN}
 
     trace : ent 𝓤 (onEntry 𝓤 H A the-fn.signature {whole_κ} {whole_q} a at) (WpFn 𝓤 H (𝓣 .C) (𝓣 .Λ) code.function ({flat}) Post)
     trace =
-        qed W ({all_tokens} ∷ ‵ {out_owns("(fsep Sheet Lent)")} ∷ []) ∵ enter ! (𝓣 .C) (𝓣 .Λ) code.function ({flat}) _ $
+        qed W ({all_tokens} ∷ ‵ {out_owns(f"(fsep Sheet (fsep ({FLOW_OWN}) Lent))")} ∷ []) ∵ enter ! (𝓣 .C) (𝓣 .Λ) code.function ({flat}) _ $
 {closed(w.text())}
 """
     tail = lambda name, i: f"({name}{' .1' * i} .0)"
     body += closing(
         "yumbaqel-load-spec",
-        outs(lambda k: f"goes-gave-ref 𝓤 H A W 20 {k} tt {slot(k)}") + ["goes-none-slice 𝓤 H A W 20 (4 ∷ []) tt (plain (λ _. u8)) yes", "goes-gave-slice 𝓤 H A W 20 5 tt (plain (λ _. T.the-row))"] + [f"goes-gave-slice 𝓤 H A W 20 {j + 6} tt (plain (λ _. u32))" for j in range(n)],
-        ["ptr-vals"] * 4 + ["slice-vals"] * 16,
-        outs(lambda k: f"mut-tells (named {k}) {part('κs', k)} {row(k)}") + [f"shr-slice-tells (named 4) {part('κs', 4)} u8", f"mut-slice-tells (named 5) {part('κs', 5)} T.the-row"] + [f"mut-slice-tells (named {j + 6}) {part('κs', j + 6)} u32" for j in range(n)],
-        " ".join(outs(lambda k: tail("κs", k))) + " (κs .1 .1 .1 .1) " + " ".join(outs(lambda k: tail("qs", k))) + " (qs .1 .1 .1 .1) " + " ".join(tail("a", i) for i in range(6)) + " (a" + " .1" * 6 + ") "
-        + " ".join(f"(are{' .1' * i} .0 .0 .1)" for i in (4, 5)) + " " + tuple_of([f"are{' .1' * (j + 6)} .0 .0 .1" for j in range(n)]),
+        outs(lambda k: f"goes-gave-ref 𝓤 H A W 20 {k} tt {slot(k)}") + ["goes-none-slice 𝓤 H A W 20 (4 ∷ []) tt (plain (λ _. u8)) yes", "goes-none 𝓤 H A W 20 (λ _. u32) yes (λ κs x f. refl)", "goes-gave-slice 𝓤 H A W 20 5 tt (plain (λ _. T.the-row))"] + [f"goes-gave-slice 𝓤 H A W 20 {j + 6} tt (plain (λ _. u32))" for j in range(n)],
+        ["ptr-vals"] * 4 + ["slice-vals", "uint-vals w32"] + ["slice-vals"] * 15,
+        outs(lambda k: f"mut-tells (named {k}) {part('κs', k)} {row(k)}") + [f"shr-slice-tells (named 4) {part('κs', 4)} u8", "uint-tells w32", f"mut-slice-tells (named 5) {part('κs', 5)} T.the-row"] + [f"mut-slice-tells (named {j + 6}) {part('κs', j + 6)} u32" for j in range(n)],
+        " ".join(outs(lambda k: tail("κs", k))) + " (κs .1 .1 .1 .1) " + " ".join(outs(lambda k: tail("qs", k))) + " (qs .1 .1 .1 .1) " + " ".join(tail("a", i) for i in range(7)) + " (a" + " .1" * 7 + ") "
+        + f"(are{' .1' * 4} .0 .0 .1) (are{' .1' * 5} .0 .1) (are{' .1' * 6} .0 .0 .1) " + tuple_of([f"are{' .1' * (j + 7)} .0 .0 .1" for j in range(n)]),
         [("loading", "Loading", "calls-loading·load"), ("put", "Put", "calls-answers·put-load")],
     )
     write(
         "yumbaqel",
         "yumbaqel_load",
         "-- `yumbaqel_load` meets its contract: the loading answers, writes the fourteen lists and fills the reach records, and `put_load` hands the\n-- answer out. Every list and every reference is passed on.",
-        IMPORTS_LOAD + IMPORTS_REACH + "use Rattle.answers.specs.Answers.{Told, foundBy, handed, loadedValues}\n"
+        IMPORTS_LOAD + IMPORTS_REACH + "use Rattle.otis.specs.Outcomes.{handed}\nuse Rattle.answers.specs.Answers.{Told, foundBy, loadedValues}\n"
         + callee_imports("Rattle.loading.proofs.load", "loading") + callee_imports("Rattle.answers.proofs.put_load", "put")
         + LENT.replace("loading·proofs.proofs", "loading.proofs") + own_imports("yumbaqel", "yumbaqel_load", code=False),
         body,

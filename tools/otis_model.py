@@ -1,6 +1,6 @@
-"""The river of document 01 in plain whole numbers: its one implementation in Python.
+"""The river of document 01, with request 1 of document 02, in plain whole numbers: its one implementation in Python.
 
-The parts stand in the document's order: the sheet and its tests, flow and
+The parts stand in document 01's order: the sheet and its tests, flow and
 half-step numbers, the sweep, the calls, the listing.  Every division is exact
 or rounded as the document says; there is no floating point here.  The tools
 take ranges and verdicts from here, the tests the figures that they compare.
@@ -9,10 +9,12 @@ from __future__ import annotations
 
 from collections.abc import Iterable, Iterator
 from dataclasses import dataclass
+from functools import lru_cache
 from itertools import accumulate
 from typing import NamedTuple, Optional
 
 MARK = b"OTR1"
+FLOW_MARK = b"OTR2"                 # of a sheet with flow rows
 FIELD = 4                           # bytes of a field: unsigned 32-bit, little-endian
 ONE_WHOLE = 2 ** 30                 # S in the equations
 HIGHEST = 1_000_000_000             # a concentration, ng/L
@@ -24,6 +26,7 @@ MOST_STEPS = 100_000
 MOST_REACHES = 64
 MOST_ROWS = 256
 MOST_GAUGES = 32
+MOST_FLOW_ROWS = 64
 LATERAL = 100_000                   # cm in a km: lateral flow is per km, dx in cm
 RATE_UNIT = 10 ** 9                 # rates are in 10^-9 per second
 KD_UNIT = 10 ** 6                   # Kd is in millionths of m3/g
@@ -87,8 +90,14 @@ class Row(NamedTuple):
     concentration: int
 
 
+class FlowRow(NamedTuple):
+    start: int
+    top_flow: int
+
+
 LONGEST_SHEET = len(MARK) + FIELD * (len(Header._fields) + 1 + MOST_REACHES * len(Reach._fields)
-                                     + 1 + MOST_ROWS * len(Row._fields) + 1 + MOST_GAUGES)
+                                     + 1 + MOST_ROWS * len(Row._fields) + 1 + MOST_GAUGES
+                                     + 1 + MOST_FLOW_ROWS * len(FlowRow._fields))
 
 
 class Range(NamedTuple):
@@ -136,14 +145,16 @@ def in_ranges(figures: Header | Reach, ranges: dict[str, Range]) -> bool:
 
 @dataclass
 class Sheet:
-    """What the walk finds; rows_begin and gauges_begin are offsets of the first of them."""
+    """What the walk finds; those that begin somewhere do so at the offset of the first, flow rows at 0 in OTR1."""
 
     header: Header
     reaches: list[Reach]
     rows: list[Row]
     gauges: list[int]
+    flow_rows: list[FlowRow]
     rows_begin: int
     gauges_begin: int
+    flow_rows_begin: int
     end: int
 
 
@@ -160,7 +171,7 @@ class Walk:
         self.at = len(MARK)
 
     def field(self) -> int:
-        """2. The sheet ends before its last gauge is complete."""
+        """2. The sheet ends before the last record of its last section is complete."""
         if self.at + FIELD > len(self.sheet):
             raise Refusal(2)
         figure = field_at(self.sheet, self.at)
@@ -178,8 +189,13 @@ class Walk:
         return count
 
 
+def has_flow_rows(sheet: bytes) -> bool:
+    """A sheet marked OTR2 has a fourth section after the gauges."""
+    return sheet[:len(FLOW_MARK)] == FLOW_MARK
+
+
 def walk(front: Walk) -> Sheet:
-    """Header, then reaches, boundary rows and gauges, each after its count."""
+    """Header, then reaches, boundary rows, gauges and in OTR2 flow rows, each after its count."""
     header = Header(*front.fields(len(Header._fields)))
     reaches = [Reach(*front.fields(len(Reach._fields))) for _ in range(front.count(MOST_REACHES))]
     row_count = front.count(MOST_ROWS)
@@ -188,7 +204,12 @@ def walk(front: Walk) -> Sheet:
     gauge_count = front.count(MOST_GAUGES)
     gauges_begin = front.at
     gauges = front.fields(gauge_count)
-    return Sheet(header, reaches, rows, gauges, rows_begin, gauges_begin, front.at)
+    flow_rows, flow_rows_begin = [], 0
+    if has_flow_rows(front.sheet):
+        flow_row_count = front.count(MOST_FLOW_ROWS)
+        flow_rows_begin = front.at
+        flow_rows = [FlowRow(*front.fields(len(FlowRow._fields))) for _ in range(flow_row_count)]
+    return Sheet(header, reaches, rows, gauges, flow_rows, rows_begin, gauges_begin, flow_rows_begin, front.at)
 
 
 def row_faults(rows: list[Row], M: int) -> Iterator[bool]:
@@ -205,13 +226,20 @@ def gauge_faults(gauges: list[int], segments: int) -> Iterator[bool]:
         yield not (in_order and 1 <= gauge <= segments)
 
 
+def flow_row_faults(flow_rows: list[FlowRow], M: int) -> Iterator[bool]:
+    """Starts from 1 to M and strictly rising, top flows in their old range."""
+    for at, row in enumerate(flow_rows):
+        in_order = at == 0 or row.start > flow_rows[at - 1].start
+        yield not (in_order and 1 <= row.start <= M and FLOW.holds(row.top_flow))
+
+
 def segment_count(reaches: list[Reach]) -> int:
     return sum(reach.segments for reach in reaches)
 
 
 def read_sheet(sheet: bytes) -> Sheet:
-    """Tests 1 to 9, each over the whole river before the next."""
-    if sheet[:len(MARK)] != MARK:                                           # 1
+    """Tests 1 to 9 and then 16, each over the whole river before the next."""
+    if sheet[:len(MARK)] not in (MARK, FLOW_MARK):                          # 1
         raise Refusal(1)
     found = walk(Walk(sheet))                                               # 2 and 3
     if len(sheet) > found.end:                                              # 4
@@ -224,7 +252,39 @@ def read_sheet(sheet: bytes) -> Sheet:
         raise Refusal(7)
     refuse_first(8, "row", row_faults(found.rows, found.header.M))
     refuse_first(9, "row", gauge_faults(found.gauges, segments))
+    refuse_first(16, "row", flow_row_faults(found.flow_rows, found.header.M))
     return found
+
+
+def section_end(sheet: bytes, at: int, width: int) -> int:
+    """Where a section ends whose count stands there, on any bytes; those past the end count as 0."""
+    return at + FIELD * (1 + width * field_at(sheet, at))
+
+
+def row_count_at(sheet: bytes) -> int:
+    """Where the count of boundary rows stands on any bytes."""
+    return section_end(sheet, len(MARK) + FIELD * len(Header._fields), len(Reach._fields))
+
+
+def gauge_count_at(sheet: bytes) -> int:
+    return section_end(sheet, row_count_at(sheet), len(Row._fields))
+
+
+def flow_row_count_at(sheet: bytes) -> int:
+    """Where the count of flow rows stands in OTR2."""
+    return section_end(sheet, gauge_count_at(sheet), 1)
+
+
+def flow_in_force(sheet: bytes, step_number: int) -> int:
+    """The flow at a step, by its row's number: the last row starting at or before it, else 0, the top flow.
+
+    Of any bytes: the highest-numbered row, of as many as the count says, whose start is at most the step.
+    """
+    begin = flow_row_count_at(sheet)
+    number = field_at(sheet, begin) if has_flow_rows(sheet) else 0
+    while number and field_at(sheet, begin + FIELD + FIELD * len(FlowRow._fields) * (number - 1)) > step_number:
+        number -= 1
+    return number
 
 
 # Flow and half-step numbers
@@ -243,6 +303,11 @@ def parts(numerator: int, denominator: int) -> int:
 def reach_of_segments(reaches: list[Reach]) -> list[Reach]:
     """The reach of each segment, from the top."""
     return [reach for reach in reaches for _ in range(reach.segments)]
+
+
+def headers(found: Sheet) -> list[Header]:
+    """The header with each flow of the sheet at the top in turn: the top flow, then every row's."""
+    return [found.header, *(found.header._replace(top_flow=row.top_flow) for row in found.flow_rows)]
 
 
 def gains(own: list[Reach]) -> list[int]:
@@ -265,8 +330,8 @@ def dispersion_around(own: list[Reach]) -> list[tuple[int, int, int]]:
     return list(zip([AD[0]] + AD[:-1], AD, AD[1:] + [AD[-1]]))
 
 
-class Segment(NamedTuple):
-    """What a loading gives of one segment: half-step numbers, CL, CB, Kd and start figure."""
+class Numbers(NamedTuple):
+    """The half-step numbers of one segment."""
 
     e: int
     g: int
@@ -278,10 +343,6 @@ class Segment(NamedTuple):
     h: int
     m: int
     s: int
-    CL: int
-    CB: int
-    Kd: int
-    start: int
 
     @property
     def T(self) -> int:
@@ -296,19 +357,29 @@ class Segment(NamedTuple):
         return self.T > ONE_WHOLE or self.V > ONE_WHOLE or self.h > ONE_WHOLE
 
 
+class Segment(NamedTuple):
+    """What a loading gives of one segment: half-step numbers, CL, CB, Kd and start figure."""
+
+    numbers: Numbers
+    CL: int
+    CB: int
+    Kd: int
+    start: int
+
+
+SET = Numbers._fields               # the ten lists of a set, by name
+COLUMNS = (*SET, *Segment._fields[1:])
+
+
 def rate_number(dt: int, rate: int) -> int:
     """a = dt x ALPHA / (2 x 10^9); k, ks, h, m as a."""
     return parts(dt * rate, 2 * RATE_UNIT)
 
 
-def segment(header: Header, reach: Reach, Q: int, AD: tuple[int, int, int], last: bool) -> Segment:
-    """The half-step numbers of one segment, by the document's fractions."""
-    dt, dx = header.dt, header.dx
-    above, own, below = AD
-    space = 4 * reach.A * dx ** 2
-    return Segment(
-        e=parts(dt * (Q * dx + above + own), space),
-        g=0 if last else parts(dt * (own + below - Q * dx), space),
+@lru_cache(MOST_SEGMENTS)
+def reach_numbers(dt: int, reach: Reach) -> dict[str, int]:
+    """The numbers that do not depend on the flow, by the document's fractions."""
+    return dict(
         l=parts(dt * reach.qin, 2 * LATERAL * reach.A),
         a=rate_number(dt, reach.ALPHA),
         b=parts(dt * reach.ALPHA * reach.A, 2 * RATE_UNIT * reach.AS),
@@ -316,56 +387,81 @@ def segment(header: Header, reach: Reach, Q: int, AD: tuple[int, int, int], last
         ks=rate_number(dt, reach.LAMBDA2),
         h=rate_number(dt, reach.LAMHAT),
         m=rate_number(dt, reach.LAMHAT2),
-        s=parts(dt * reach.LAMHAT * reach.RHO * reach.Kd, 2 * RATE_UNIT * KD_UNIT),
-        CL=reach.CL, CB=reach.CB, Kd=reach.Kd, start=reach.start)
+        s=parts(dt * reach.LAMHAT * reach.RHO * reach.Kd, 2 * RATE_UNIT * KD_UNIT))
 
 
-def test_flows(dx: int, Q: list[int], AD: list[tuple[int, int, int]]) -> None:
-    """Tests 10 and 11, each over the whole river before the next."""
-    refuse_first(10, "segment", (not FLOW.holds(flow) for flow in Q))
-    refuse_first(11, "segment", (flow * dx > here + below for flow, (_, here, below) in zip(Q, AD)))
+def numbers(header: Header, reach: Reach, Q: int, AD: tuple[int, int, int], last: bool) -> Numbers:
+    """The half-step numbers of one segment, by the document's fractions."""
+    dt, dx = header.dt, header.dx
+    above, own, below = AD
+    space = 4 * reach.A * dx ** 2
+    return Numbers(e=parts(dt * (Q * dx + above + own), space),
+                   g=0 if last else parts(dt * (own + below - Q * dx), space),
+                   **reach_numbers(dt, reach))
 
 
-def segments_of(header: Header, own: list[Reach], Q: list[int], AD: list[tuple[int, int, int]]) -> list[Segment]:
+def test_flows(dx: int, flows_of: list[list[int]], AD: list[tuple[int, int, int]]) -> None:
+    """Tests 10 and 11, each for the top flow and then for every row's in turn, before the next."""
+    for Q in flows_of:
+        refuse_first(10, "segment", (not FLOW.holds(flow) for flow in Q))
+    for Q in flows_of:
+        refuse_first(11, "segment", (flow * dx > here + below for flow, (_, here, below) in zip(Q, AD)))
+
+
+def set_of(header: Header, own: list[Reach], Q: list[int], AD: list[tuple[int, int, int]]) -> list[Numbers]:
+    """One flow's set: the half-step numbers of every segment."""
     last = len(own) - 1
-    return [segment(header, reach, Q[at], AD[at], at == last) for at, reach in enumerate(own)]
+    return [numbers(header, reach, Q[at], AD[at], at == last) for at, reach in enumerate(own)]
 
 
-def river_of(found: Sheet) -> list[Segment]:
-    """Tests 10 to 12, each over the whole river before the next; then the river's segments."""
+def rivers_of(found: Sheet) -> list[list[Segment]]:
+    """Tests 10 to 12, each for all flows before the next; then the river's segments with each flow's set."""
     own = reach_of_segments(found.reaches)
-    Q = flows(found.header, own)
     AD = dispersion_around(own)
-    test_flows(found.header.dx, Q, AD)
-    river = segments_of(found.header, own, Q, AD)
-    refuse_first(12, "segment", (part.over_one_whole() for part in river))
-    return river
+    flows_of = [flows(header, own) for header in headers(found)]
+    test_flows(found.header.dx, flows_of, AD)
+    sets = [set_of(found.header, own, Q, AD) for Q in flows_of]
+    for each in sets:
+        refuse_first(12, "segment", (part.over_one_whole() for part in each))
+    return [[Segment(part, reach.CL, reach.CB, reach.Kd, reach.start) for part, reach in zip(each, own)]
+            for each in sets]
 
 
 # The sweep
 
 
-def channel_right_side(part: Segment, C: int, Z: int, W: int, above: int, below: int) -> int:
-    """(S-T)C + eCabove + gCbelow + aZ + sW + 2lCL"""
-    return ((ONE_WHOLE - part.T) * C + part.e * above + part.g * below
-            + part.a * Z + part.s * W + 2 * part.l * part.CL)
+class Pair(NamedTuple):
+    """What a step is lent of one segment: the numbers of its old side and of its new side, CL and CB."""
+
+    old: Numbers
+    new: Numbers
+    CL: int
+    CB: int
 
 
-def storage_right_side(part: Segment, C: int, Z: int) -> int:
-    """(S-V)Z + bC + 2mCB"""
-    return (ONE_WHOLE - part.V) * Z + part.b * C + 2 * part.m * part.CB
+def channel_right_side(pair: Pair, C: int, Z: int, W: int, above: int, below: int) -> int:
+    """(S-T)C + eCabove + gCbelow + aZ + sW + 2lCL, of the old numbers; 2l is the old number plus the new."""
+    old = pair.old
+    return ((ONE_WHOLE - old.T) * C + old.e * above + old.g * below
+            + old.a * Z + old.s * W + (old.l + pair.new.l) * pair.CL)
 
 
-def sediment_right_side(part: Segment, C: int, W: int) -> int:
-    """(S-h)W + hC"""
-    return (ONE_WHOLE - part.h) * W + part.h * C
+def storage_right_side(pair: Pair, C: int, Z: int) -> int:
+    """(S-V)Z + bC + 2mCB, of the old numbers; 2m is the old number plus the new."""
+    old = pair.old
+    return (ONE_WHOLE - old.V) * Z + old.b * C + (old.m + pair.new.m) * pair.CB
 
 
-def full_divisor(part: Segment) -> int:
+def sediment_right_side(pair: Pair, C: int, W: int) -> int:
+    """(S-h)W + hC, of the old numbers."""
+    return (ONE_WHOLE - pair.old.h) * W + pair.old.h * C
+
+
+def full_divisor(new: Numbers) -> int:
     """F = S+e+g+l+k + a(S+ks+m)/(S+V) + sS/(S+h), its two quotients divided singly."""
-    return (ONE_WHOLE + part.e + part.g + part.l + part.k
-            + nearest(part.a * (ONE_WHOLE + part.ks + part.m), ONE_WHOLE + part.V)
-            + nearest(part.s * ONE_WHOLE, ONE_WHOLE + part.h))
+    return (ONE_WHOLE + new.e + new.g + new.l + new.k
+            + nearest(new.a * (ONE_WHOLE + new.ks + new.m), ONE_WHOLE + new.V)
+            + nearest(new.s * ONE_WHOLE, ONE_WHOLE + new.h))
 
 
 class Swept(NamedTuple):
@@ -378,24 +474,28 @@ class Swept(NamedTuple):
     y: list[int]
 
 
-def downward(river: list[Segment], C: list[int], Z: list[int], W: list[int],
+def downward(pairs: list[Pair], C: list[int], Z: list[int], W: list[int],
              U: int, new_U: int) -> tuple[list[int], list[int]]:
-    """H = F in segment 1, else F - (e x p above)/S; p = gS/H; y = (R + e x y above)/H."""
+    """H = F in segment 1, else F - (e x p above)/S; p = gS/H; y = (R + e x y above)/H: by the new numbers.
+
+    P and N divide the old numerator by the new S+V and S+h; in R, aP, sN and eU' take the new numbers.
+    """
     p: list[int] = []
     y: list[int] = []
-    for at, part in enumerate(river):
+    for at, pair in enumerate(pairs):
+        new = pair.new
         above = C[at - 1] if at else U
-        below = C[at + 1] if at + 1 < len(river) else 0
-        P = nearest(storage_right_side(part, C[at], Z[at]), ONE_WHOLE + part.V)
-        N = nearest(sediment_right_side(part, C[at], W[at]), ONE_WHOLE + part.h)
-        R = channel_right_side(part, C[at], Z[at], W[at], above, below) + part.a * P + part.s * N
-        H = full_divisor(part)
+        below = C[at + 1] if at + 1 < len(pairs) else 0
+        P = nearest(storage_right_side(pair, C[at], Z[at]), ONE_WHOLE + new.V)
+        N = nearest(sediment_right_side(pair, C[at], W[at]), ONE_WHOLE + new.h)
+        R = channel_right_side(pair, C[at], Z[at], W[at], above, below) + new.a * P + new.s * N
+        H = full_divisor(new)
         if at:
-            H -= nearest(part.e * p[at - 1], ONE_WHOLE)
-            R += part.e * y[at - 1]
+            H -= nearest(new.e * p[at - 1], ONE_WHOLE)
+            R += new.e * y[at - 1]
         else:
-            R += part.e * new_U
-        p.append(nearest(part.g * ONE_WHOLE, H))
+            R += new.e * new_U
+        p.append(nearest(new.g * ONE_WHOLE, H))
         y.append(nearest(R, H))
     return p, y
 
@@ -408,15 +508,15 @@ def upward(p: list[int], y: list[int]) -> list[int]:
     return [min(figure, HIGHEST) for figure in new_C]
 
 
-def sweep(river: list[Segment], C: list[int], Z: list[int], W: list[int],
+def sweep(pairs: list[Pair], C: list[int], Z: list[int], W: list[int],
           U: int, new_U: int) -> Swept:
     """One step: downward, upward, then Z' and W' from their equations."""
-    p, y = downward(river, C, Z, W, U, new_U)
+    p, y = downward(pairs, C, Z, W, U, new_U)
     new_C = upward(p, y)
-    new_Z = [nearest(storage_right_side(part, C[at], Z[at]) + part.b * new_C[at], ONE_WHOLE + part.V)
-             for at, part in enumerate(river)]
-    new_W = [nearest(sediment_right_side(part, C[at], W[at]) + part.h * new_C[at], ONE_WHOLE + part.h)
-             for at, part in enumerate(river)]
+    new_Z = [nearest(storage_right_side(pair, C[at], Z[at]) + pair.new.b * new_C[at], ONE_WHOLE + pair.new.V)
+             for at, pair in enumerate(pairs)]
+    new_W = [nearest(sediment_right_side(pair, C[at], W[at]) + pair.new.h * new_C[at], ONE_WHOLE + pair.new.h)
+             for at, pair in enumerate(pairs)]
     return Swept(new_C, new_Z, new_W, p, y)
 
 
@@ -433,25 +533,34 @@ class Loaded(NamedTuple):
     rows: int
     gauges_begin: int
     gauges: int
+    flow_rows_begin: int
+    flow_rows: int
 
 
 class Lists:
-    """The lent lists of half-step numbers, CL, CB, Kd and start figures, by name."""
+    """Lent lists by name: half-step numbers, CL, CB, Kd and start figures; or the ten lists of a set alone."""
 
-    def __init__(self, length: int, content: int = 0) -> None:
-        self.column = {name: [content] * length for name in Segment._fields}
+    def __init__(self, length: int, content: int = 0, names: tuple[str, ...] = COLUMNS) -> None:
+        self.column = {name: [content] * length for name in names}
 
     def shortest(self) -> int:
         return min(len(column) for column in self.column.values())
 
     def fill(self, river: list[Segment]) -> None:
         """Only the first entries are written."""
-        for column, figures in zip(self.column.values(), zip(*river)):
-            column[:len(river)] = figures
+        for name, figures in zip(COLUMNS, zip(*((*part.numbers, *part[1:]) for part in river))):
+            if name in self.column:
+                self.column[name][:len(river)] = figures
+
+    def entries(self, names: tuple[str, ...], segments: int) -> Iterator[tuple[int, ...]]:
+        return zip(*(self.column[name][:segments] for name in names))
+
+    def numbers(self, segments: int) -> list[Numbers]:
+        return [Numbers(*figures) for figures in self.entries(SET, segments)]
 
     def river(self, segments: int) -> list[Segment]:
-        columns = (column[:segments] for column in self.column.values())
-        return [Segment(*figures) for figures in zip(*columns)]
+        rest = self.entries(COLUMNS[len(SET):], segments)
+        return [Segment(part, *figures) for part, figures in zip(self.numbers(segments), rest)]
 
 
 @dataclass
@@ -479,13 +588,17 @@ def test_lists(segments: int, shortest: int) -> None:
 
 
 def test_figures(river: list[Segment], state: Optional[State], concentrations: Iterable[int],
-                 counts: Iterable[int]) -> None:
-    """14, over all segments, then U, U', M and the count; the state is left out for a start."""
+                 counts: Iterable[int], old: Optional[list[Numbers]] = None) -> None:
+    """14, over all segments, then U, U', M and the count; the state is left out for a start.
+
+    Of a step it looks at both sets; `old` is that of the old side.
+    """
     last = len(river) - 1
 
     def fault(at: int, part: Segment) -> bool:
-        return (part.over_one_whole() or (at == last and part.g != 0) or part.Kd > HIGHEST_KD
-                or part.CL > HIGHEST or part.CB > HIGHEST or part.start > HIGHEST
+        lent = (part.numbers,) if old is None else (part.numbers, old[at])
+        return (any(each.over_one_whole() or (at == last and each.g != 0) for each in lent)
+                or part.Kd > HIGHEST_KD or part.CL > HIGHEST or part.CB > HIGHEST or part.start > HIGHEST
                 or (state is not None
                     and (state.C[at] > HIGHEST or state.Z[at] > HIGHEST or state.W[at] > HIGHEST)))
 
@@ -494,17 +607,18 @@ def test_figures(river: list[Segment], state: Optional[State], concentrations: I
         raise Refusal(14)
 
 
-def load(sheet: bytes, lists: Lists, records: list[Optional[Reach]]) -> Loaded:
-    """Loading tests 1 to 13, then fills the lists and the first reach records."""
+def load(sheet: bytes, row: int, lists: Lists, records: list[Optional[Reach]]) -> Loaded:
+    """Loading tests 1 to 13, then fills the lists with the set of that flow row and the first reach records."""
     found = read_sheet(sheet)
-    river = river_of(found)
-    test_lists(len(river), lists.shortest())
-    if len(records) < len(found.reaches):
+    rivers = rivers_of(found)
+    test_lists(len(rivers[0]), lists.shortest())
+    if len(records) < len(found.reaches) or row > len(found.flow_rows):
         raise Refusal(13)
-    lists.fill(river)
+    lists.fill(rivers[row])
     records[:len(found.reaches)] = found.reaches
-    return Loaded(found.header.M, found.header.interval, len(river),
-                  found.rows_begin, len(found.rows), found.gauges_begin, len(found.gauges))
+    return Loaded(found.header.M, found.header.interval, len(rivers[row]),
+                  found.rows_begin, len(found.rows), found.gauges_begin, len(found.gauges),
+                  found.flow_rows_begin, len(found.flow_rows))
 
 
 def start(lists: Lists, segments: int, state: State, U: int) -> None:
@@ -517,15 +631,19 @@ def start(lists: Lists, segments: int, state: State, U: int) -> None:
     state.U, state.count = U, 0
 
 
-def step(lists: Lists, segments: int, state: State, p: list[int], y: list[int],
+def step(old: Lists, lists: Lists, segments: int, state: State, p: list[int], y: list[int],
          new_U: int, M: int) -> None:
-    """A step tests 13 to 15; after it the state's U is that step's U'."""
-    test_lists(segments, min(lists.shortest(), state.shortest(), len(p), len(y)))
-    river = lists.river(segments)
-    test_figures(river, state, (state.U, new_U), (state.count, M))
+    """A step tests 13 to 15; it is lent the old side's set and, in `lists`, the new one's with CL, CB and the rest.
+
+    After it the state's U is that step's U'.
+    """
+    test_lists(segments, min(old.shortest(), lists.shortest(), state.shortest(), len(p), len(y)))
+    before, river = old.numbers(segments), lists.river(segments)
+    test_figures(river, state, (state.U, new_U), (state.count, M), before)
     if state.count >= M:
         raise Refusal(15)
-    swept = sweep(river, state.C, state.Z, state.W, state.U, new_U)
+    pairs = [Pair(was, part.numbers, part.CL, part.CB) for was, part in zip(before, river)]
+    swept = sweep(pairs, state.C, state.Z, state.W, state.U, new_U)
     for lent, figures in zip((state.C, state.Z, state.W, p, y), swept):
         lent[:segments] = figures
     state.U, state.count = new_U, state.count + 1
@@ -575,25 +693,32 @@ def words(sheet: bytes, begin: int, count: int) -> list[int]:
 def answer(sheet: bytes) -> Optional[Refusal]:
     """A loading's answer with room enough: nothing when it accepts, else the refusal."""
     try:
-        load(sheet, Lists(MOST_SEGMENTS), [None] * MOST_REACHES)
+        load(sheet, 0, Lists(MOST_SEGMENTS), [None] * MOST_REACHES)
     except Refusal as refusal:
         return refusal
     return None
 
 
 def run(sheet: bytes) -> Iterator[Lines]:
-    """The sheet's own river: the loading, the start, then each step up to M."""
-    lists = Lists(MOST_SEGMENTS)
-    loaded = load(sheet, lists, [None] * MOST_REACHES)
+    """The sheet's own river: the loading, the start, then each step up to M, each with its pair of sets."""
+    old, lists = Lists(MOST_SEGMENTS, names=SET), Lists(MOST_SEGMENTS)
+    loaded = load(sheet, 0, lists, [None] * MOST_REACHES)
+    rivers = rivers_of(read_sheet(sheet))
     rows = words(sheet, loaded.rows_begin, loaded.rows * len(Row._fields))
     starts, concentrations = rows[0::2], rows[1::2]
     gauges = words(sheet, loaded.gauges_begin, loaded.gauges)
     state = State.of_length(loaded.segments)
     p, y = [0] * loaded.segments, [0] * loaded.segments
     start(lists, loaded.segments, state, upstream(starts, concentrations, loaded.M, 0))
+    held = None
     for number in range(1, loaded.M + 1):
         new_U = upstream(starts, concentrations, loaded.M, number)
-        step(lists, loaded.segments, state, p, y, new_U, loaded.M)
+        pair = flow_in_force(sheet, number - 1), flow_in_force(sheet, number)
+        if pair != held:
+            held = pair
+            for lent, flow_row in zip((old, lists), pair):
+                lent.fill(rivers[flow_row])
+        step(old, lists, loaded.segments, state, p, y, new_U, loaded.M)
         yield Lines(number, loaded, lists, state, gauges)
 
 

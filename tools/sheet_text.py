@@ -1,4 +1,4 @@
-"""The text of a river sheet: lines with units for the header, tables for reaches, boundary rows and gauges.
+"""The text of a river sheet: lines with units for the header, tables for reaches, rows and gauges.
 
 docs/TOOLS.md describes the layout.  Every figure is exact: one that is not whole in
 the sheet's unit is a mistake, unless it is marked with ~, which takes the nearest.
@@ -15,7 +15,7 @@ from typing import NamedTuple, NoReturn, Optional
 import explain
 import otis_model as model
 import units
-from otis_model import FIELD, MARK, Header, Reach, Row, Sheet
+from otis_model import FIELD, FLOW_MARK, MARK, FlowRow, Header, Reach, Row, Sheet
 from units import HEADER_KINDS, REACH_KINDS, BadText, Quantity, Unit, about, in_unit, liked_unit, with_unit
 
 HIGHEST_FIELD = 2 ** (8 * FIELD) - 1
@@ -46,6 +46,8 @@ TABLES = {
     "boundary": {"step": Column("start", units.COUNT), "from": Column("start", units.TIME, "dt"),
                  "concentration": Column("concentration", units.CONCENTRATION)},
     "gauge": {"segment": Column("segment", units.COUNT), "distance": Column("segment", units.LENGTH, "dx")},
+    "flow": {"step": Column("start", units.COUNT), "from": Column("start", units.TIME, "dt"),
+             "top": Column("top_flow", units.FLOW)},
 }
 REPORT_NAMES = {"nseg": "segments", "rchlen": "length", "disp": "D", "area": "A", "area2": "AS", "qlatin": "qin",
                 "qlatout": "qout", "clatin": "CL", "csback": "CB", "ustime": "from", "usbc": "concentration",
@@ -82,6 +84,7 @@ class Given:
     records: dict[str, dict[int, dict[str, Cell]]] = field(
         default_factory=lambda: {kind: {} for kind in TABLES})
     every_reach: dict[str, Cell] = field(default_factory=dict)
+    tables: set[str] = field(default_factory=set)           # the kinds of tables that there are
     mistakes: list[Mistake] = field(default_factory=list)
     last_line: int = 1
 
@@ -123,7 +126,7 @@ class Reader:
     def take(self, words: list[str]) -> None:
         """A line is the head of a table, its units, one of its rows, or a line of the header."""
         first = words[0].lower()
-        if first in TABLES:
+        if first in TABLES and not is_header(words):
             self.begin_table(first, words[1:])
         elif first in ("unit", "units") or is_label(first):
             if not self.broken:
@@ -146,6 +149,7 @@ class Reader:
     def begin_table(self, kind: str, columns: list[str]) -> None:
         """The head of a table: what its rows are, then its columns."""
         self.end_table()
+        self.given.tables.add(kind)
         if not columns:
             self.give_up(f"the {kind} table has no columns: after '{kind}' come some of {', '.join(TABLES[kind])}")
         self.table = OpenTable(kind, self.line, [self.column_name(kind, name) for name in columns], [], [])
@@ -182,7 +186,8 @@ class Reader:
         """A table's row: its number, then a figure for each column."""
         table = self.table
         if table is None:
-            raise BadText(f"row {label} belongs to no table: a table begins with 'reach', 'boundary' or 'gauge'")
+            raise BadText(f"row {label} belongs to no table: "
+                          "a table begins with 'reach', 'boundary', 'gauge' or 'flow'")
         if not table.marks:
             self.give_up(f"the {table.kind} table of line {table.line} wants its units before its rows: "
                          "write 'unit' and then a unit for each column (- for a count)")
@@ -237,6 +242,11 @@ class Reader:
         counted = unit in ("", "-")
         into[column.field] = Cell(self.line, name, text if counted else f"{text} {unit}", value, nearest, column,
                                   None if counted else Unit(unit, factor))
+
+
+def is_header(words: list[str]) -> bool:
+    """A line of the header whose first word is also the head of a table: flow at top."""
+    return any(line.split()[:2] == [word.lower() for word in words[:2]] for line in HEADER_LINES if " " in line)
 
 
 def is_label(word: str) -> bool:
@@ -335,7 +345,7 @@ class Maker:
         records = self.given.records[kind]
         every = self.given.every_reach if kind == "reach" else {}
         if not records:
-            several = "no row numbered 1" if every else "no table"
+            several = "no row numbered 1" if kind in self.given.tables else "no table"
             self.mistake(self.given.last_line, f"the text has {several} for '{kind}'")
         found = []
         for number, (label, cells) in enumerate(sorted(records.items()), 1):
@@ -365,11 +375,14 @@ class Maker:
         reaches = [Reach(**figures) for figures in self.records("reach", Reach._fields)]
         rows = [Row(**figures) for figures in self.records("boundary", Row._fields)]
         gauges = [figures["segment"] for figures in self.records("gauge", ("segment",))]
+        flow_rows = []
+        if "flow" in self.given.tables:
+            flow_rows = [FlowRow(**figures) for figures in self.records("flow", FlowRow._fields)]
         self.mistakes, self.rounded = sorted(set(self.mistakes)), sorted(set(self.rounded))
-        return None if self.mistakes else write_sheet(header, reaches, rows, gauges)
+        return None if self.mistakes else write_sheet(header, reaches, rows, gauges, flow_rows)
 
     def line_of(self, fault: explain.Fault, found: Optional[Sheet]) -> int:
-        """The line that document 01's refusal lies in."""
+        """The line that a refusal lies in; of 10 to 12 the flow row's where its flow is the one at fault."""
         if fault.number == 3:
             section = next(section for section in explain.SECTIONS if section.record == fault.field)
             kind = fault.field.split()[0]
@@ -380,10 +393,12 @@ class Maker:
         if fault.number == 7:
             return self.cells["reach", len(self.given.records["reach"]), "segments"].line
         kind, at = fault.place
+        if fault.flow:
+            return self.cells["flow", fault.flow, "top_flow"].line
         if kind == "segment":
             name = "D" if fault.number == 11 else "segments"
             return self.cells["reach", explain.reach_of(found, at), name].line
-        kind = {6: "reach", 8: "boundary", 9: "gauge"}[fault.number]
+        kind = {6: "reach", 8: "boundary", 9: "gauge", 16: "flow"}[fault.number]
         return self.cells[kind, at, fault.field].line
 
     def written(self) -> explain.Written:
@@ -401,11 +416,15 @@ def allowed_words(name: str, kind: Quantity, unit: Optional[Unit]) -> str:
     return f"; {explain.range_remedy(ranges[name], kind, unit)}"
 
 
-def write_sheet(header: Header, reaches: list[Reach], rows: list[Row], gauges: list[int]) -> bytes:
-    """The sheet's bytes: the mark, then all fields in their order, counts before their records."""
+def write_sheet(header: Header, reaches: list[Reach], rows: list[Row], gauges: list[int],
+                flow_rows: list[FlowRow]) -> bytes:
+    """The sheet's bytes: the mark, OTR1 without flow rows, then all fields in order, counts before their records."""
     fields = [*header, len(reaches), *(each for reach in reaches for each in reach),
               len(rows), *(each for row in rows for each in row), len(gauges), *gauges]
-    return MARK + b"".join(figure.to_bytes(FIELD, "little") for figure in fields)
+    if flow_rows:
+        fields += [len(flow_rows), *(each for row in flow_rows for each in row)]
+    mark = FLOW_MARK if flow_rows else MARK
+    return mark + b"".join(figure.to_bytes(FIELD, "little") for figure in fields)
 
 
 def make(text: str) -> Made:
@@ -463,4 +482,8 @@ def read(sheet: bytes) -> str:
                          [explain.hours(dt * start) for start in starts])]
     lines += ["", *table("gauge", {"segment": (units.COUNT, found.gauges)},
                          [explain.metres(dx * gauge) for gauge in found.gauges])]
+    if found.flow_rows:
+        starts, tops = [list(column) for column in zip(*found.flow_rows)]
+        lines += ["", *table("flow", {"step": (units.COUNT, starts), "top": (units.FLOW, tops)},
+                             [explain.hours(dt * start) for start in starts])]
     return "".join(line + "\n" for line in lines)

@@ -39,12 +39,7 @@ abbrev pub foundBy : {A : Type 0} → Outcome A → Finding
 foundBy (accepted v) = passes
 foundBy (refused number place) = fails number place
 
--- a value of an accepted answer, written over what was there; after a refusal what was there
-abbrev pub handed : {A B : Type 0} → Outcome A → (A → B) → B → B
-handed (accepted v) value before = value v
-handed (refused number place) value before = before
-
--- the seven values of a loading, in document 01's order
+-- the nine values of a loading: the seven in document 01's order, then where the flow rows begin and how many there are
 abbrev pub loadedValues : Loaded → List ℕ
 loadedValues v =
-    v .steps ∷ v .interval ∷ v .segments ∷ v .rowsAt ∷ v .rows ∷ v .gaugesAt ∷ v .gauges ∷ []
+    v .steps ∷ v .interval ∷ v .segments ∷ v .rowsAt ∷ v .rows ∷ v .gaugesAt ∷ v .gauges ∷ v .flowRowsAt ∷ v .flowRows ∷ []

@@ -5,7 +5,8 @@ ghost use Rattle.lists.specs.Lent.{entry, exit};
 ghost use Rattle.assembly.specs.Says.{loadSays};
 ghost use Rattle.boundary.specs.Says.{upstreamSays};
 ghost use Rattle.otis.specs.Says.{startSays, stepSays, reportSays};
-ghost use Rattle.answers.specs.Answers.{kindNumber, placeNumber, foundBy, handed, Told, loadedValues};
+ghost use Rattle.otis.specs.Outcomes.{handed};
+ghost use Rattle.answers.specs.Answers.{kindNumber, placeNumber, foundBy, Told, loadedValues};
 use assembly::Load;
 use boundary::Upstream;
 use otis::Report;
@@ -54,7 +55,7 @@ pub fn put_load(
     number: &mut u32,
     kind: &mut u32,
     place: &mut u32,
-    loaded: &mut [u32; 7],
+    loaded: &mut [u32; 9],
 )
     ensures told { λ _. ⌜ Told (foundBy (loadSays answer)) (exit number) (exit kind) (exit place) ⌝ }
     ensures values { λ _. ⌜ exit loaded ≡ handed (loadSays answer) loadedValues (entry loaded) ⌝ }
@@ -69,6 +70,8 @@ pub fn put_load(
                 v.rows,
                 v.gaugesat,
                 v.gauges,
+                v.flowrowsat,
+                v.flowrows,
             ];
             put_refusal(0, Place::Nothing, number, kind, place);
         }

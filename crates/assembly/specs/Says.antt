@@ -15,6 +15,8 @@ loadedSays r = record {
   rows = r .rows;
   gaugesAt = r .gaugesat;
   gauges = r .gauges;
+  flowRowsAt = r .flowrowsat;
+  flowRows = r .flowrows;
 }
 
 abbrev pub loadSays : Load → Outcome Document.Loaded

@@ -9,7 +9,9 @@ ghost use Rattle.course.specs.Segments.{Read};
 ghost use Rattle.assembly.specs.Says.{loadedSays, loadSays};
 use columns::any_short;
 use columns::fill;
-use course::course_test;
+use course::flows_test;
+use sheet::fields::flow_row_count;
+use sheet::fields::flow_rows_at;
 use sheet::fields::gauge_count;
 use sheet::fields::gauges_at;
 use sheet::fields::interval;
@@ -22,7 +24,7 @@ use terms::Finding;
 use terms::Place;
 
 // "Its result also gives M, the print interval, the segment count, and where the rows and the gauges begin on the sheet and how many
-// there are."
+// there are", and "where the flow rows begin and how many there are".
 pub struct Loaded {
     pub steps: u32,
     pub interval: u32,
@@ -31,6 +33,8 @@ pub struct Loaded {
     pub rows: u32,
     pub gaugesat: u32,
     pub gauges: u32,
+    pub flowrowsat: u32,
+    pub flowrows: u32,
 }
 
 pub enum Load {
@@ -38,9 +42,10 @@ pub enum Load {
     Refused(u32, Place),
 }
 
-// What tests 1 to 13 find; `records` is the length of the list of reach records.
+// What a loading's tests find; `row` is the flow row's number, `records` the length of the list of reach records.
 fn load_test(
     sheet: &[u8],
+    row: u32,
     records: usize,
     e: &[u32],
     g: &[u32],
@@ -57,20 +62,23 @@ fn load_test(
     kd: &[u32],
     start: &[u32],
 ) -> Finding
-    ensures { λ r. ⌜ findingSays r ≡ first (loadTests (entry sheet) records (columns entry e g l a b k ks h m s cl cb kd start)) ⌝ }
+    ensures { λ r. ⌜ findingSays r ≡ first (loadTests (entry sheet) row records (columns entry e g l a b k ks h m s cl cb kd start)) ⌝ }
 {
     if let Finding::Fails(number, place) = sheet::sheet_test(sheet) {
         return Finding::Fails(number, place);
     }
     let n = segment_count(sheet);
-    if let Finding::Fails(number, place) = course_test(sheet, n, 10) {
+    if let Finding::Fails(number, place) = flows_test(sheet, n, 10) {
         return Finding::Fails(number, place);
     }
-    if let Finding::Fails(number, place) = course_test(sheet, n, 11) {
+    if let Finding::Fails(number, place) = flows_test(sheet, n, 11) {
         return Finding::Fails(number, place);
     }
-    if let Finding::Fails(number, place) = course_test(sheet, n, 12) {
+    if let Finding::Fails(number, place) = flows_test(sheet, n, 12) {
         return Finding::Fails(number, place);
+    }
+    if flow_row_count(sheet) < row {
+        return Finding::Fails(13, Place::Nothing);
     }
     if any_short(n, e, g, l, a, b, k, ks, h, m, s, cl, cb, kd, start) {
         return Finding::Fails(13, Place::Nothing);
@@ -95,12 +103,16 @@ impl Loaded {
             rows: row_count(sheet),
             gaugesat: gauges_at(sheet) as u32,
             gauges: gauge_count(sheet),
+            flowrowsat: flow_rows_at(sheet) as u32,
+            flowrows: flow_row_count(sheet),
         }
     }
 
-    // A loading: tests 1 to 13 on any bytes and any lists; where all pass, each list's first entries are written, otherwise nothing.
+    // A loading: its tests on any bytes, any number of a flow row and any lists; where all pass, each list's first entries are written,
+    // with the set of that row's flow, otherwise nothing.
     pub fn assemble(
         sheet: &[u8],
+        row: u32,
         records: usize,
         e: &mut [u32],
         g: &mut [u32],
@@ -117,12 +129,13 @@ impl Loaded {
         kd: &mut [u32],
         start: &mut [u32],
     ) -> Load
-        ensures answer { λ r. ⌜ loadSays r ≡ loadAnswer (entry sheet) records (columns entry e g l a b k ks h m s cl cb kd start) ⌝ }
-        ensures lists { λ r. ⌜ columns exit e g l a b k ks h m s cl cb kd start ≡ loadColumns (entry sheet) records
+        ensures answer { λ r. ⌜ loadSays r ≡ loadAnswer (entry sheet) row records (columns entry e g l a b k ks h m s cl cb kd start) ⌝ }
+        ensures lists { λ r. ⌜ columns exit e g l a b k ks h m s cl cb kd start ≡ loadColumns (entry sheet) row records
             (columns entry e g l a b k ks h m s cl cb kd start) ⌝ }
     {
         let found = load_test(
             sheet,
+            row,
             records,
             &e[..],
             &g[..],
@@ -145,6 +158,7 @@ impl Loaded {
                 let values = Loaded::read(sheet, n);
                 fill(
                     sheet,
+                    row,
                     n,
                     &mut e[..],
                     &mut g[..],

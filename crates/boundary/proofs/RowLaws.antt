@@ -45,7 +45,7 @@ module _ {M : ℕ} {starts concentrations : List ℕ} where
   module _ {i before : ℕ} (r : Passing M starts concentrations i before) where
     -- the row that the loop stands at
     pub passing-row : IsRow starts concentrations i before (getD starts i 0) (getD concentrations i 0)
-    passing-row = record { before-is = r .last; start-is = refl; concentration-is = refl }
+    passing-row = record { before-is = r .last; start-is = refl; figure-is = refl }
 
     pub passing-miss : i < length starts → rowFault M starts concentrations i ≡ false →
         Passing M starts concentrations (i + 1) (getD starts i 0)

@@ -91,7 +91,8 @@ pub fn start_test(
     Finding::Passes
 }
 
-// Tests 13 and 14 of a step or a report, of which `unfit` says what 13 finds of the others that it is lent or handed.
+// Tests 13 and 14 of a step or a report. `unfit` says what 13 finds of the others that it is lent or handed, `other` is the lowest segment
+// that 14 finds at fault in a step's old set, counting from 0, or n.
 pub fn state_test(
     n: u32,
     e: &[u32],
@@ -112,13 +113,14 @@ pub fn state_test(
     storage: &[u32],
     sediment: &[u32],
     unfit: bool,
+    other: usize,
     upstream: u32,
     done: u32,
     u: u32,
     steps: u32,
 ) -> Finding
     ensures { λ r. ⌜ findingSays r ≡ first (stateTests n (columns entry e g l a b k ks h m s cl cb kd start)
-        (state entry channel storage sediment upstream done) unfit u steps) ⌝ }
+        (state entry channel storage sediment upstream done) unfit other u steps) ⌝ }
 {
     if river_fault(
         n,
@@ -147,8 +149,11 @@ pub fn state_test(
     }
     let count = n as usize;
     let i = least(
-        segment_at_fault(count, e, g, l, a, b, k, ks, h, m, s, cl, cb, kd, start),
-        figures_at_fault(count, channel, storage, sediment),
+        other,
+        least(
+            segment_at_fault(count, e, g, l, a, b, k, ks, h, m, s, cl, cb, kd, start),
+            figures_at_fault(count, channel, storage, sediment),
+        ),
     );
     if i < count {
         return Finding::Fails(14, place_of(i));

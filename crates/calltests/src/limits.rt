@@ -3,13 +3,12 @@ ghost use mathlib.Core.Path.{_≡_};
 ghost use mathlib.Core.Bool.{not, _&&_, _||_};
 ghost use lib.Dec.{eqb, ltb};
 ghost use Rattle.model.specs.Ranges.{_to_, outside, concentration, mostSteps};
-ghost use Rattle.model.specs.Load.{sumFault};
-ghost use Rattle.model.specs.Calls.{segmentFault, figureFault};
-ghost use Rattle.terms.specs.Lent.{numbers, segment};
-use rounding::WHOLE;
+ghost use Rattle.model.specs.Calls.{numbersFault, segmentFault, figureFault};
+ghost use Rattle.terms.specs.Says.{numbersSay};
 use sheet::ranges::CONCENTRATION;
 use sheet::ranges::KD;
 use sheet::ranges::STEPS;
+use terms::Numbers;
 
 // The highest concentration, in ng/L.
 pub const HIGHEST: u32 = CONCENTRATION.high;
@@ -45,26 +44,6 @@ pub fn or_high(fault: bool, x: u32) -> bool
     or_above(fault, LIMIT, x as u64)
 }
 
-// "T, V or h exceeds one whole"
-fn sum_fault(
-    e: u32,
-    g: u32,
-    l: u32,
-    a: u32,
-    b: u32,
-    k: u32,
-    ks: u32,
-    h: u32,
-    m: u32,
-    s: u32,
-) -> bool
-    ensures { λ r. ⌜ r ≡ sumFault (numbers e g l a b k ks h m s) ⌝ }
-{
-    let t = (e as u64) + (g as u64) + (l as u64) + (a as u64) + (k as u64) + (s as u64);
-    let v = (b as u64) + (ks as u64) + (m as u64);
-    or_above(or_above(WHOLE < t, WHOLE, v), WHOLE, h as u64)
-}
-
 // "the last g is not 0"
 fn or_last(fault: bool, last: bool, g: u32) -> bool
     ensures { λ r. ⌜ r ≡ (fault || (last && not (eqb g 0))) ⌝ }
@@ -78,28 +57,18 @@ fn or_last(fault: bool, last: bool, g: u32) -> bool
     false
 }
 
-// Test 14 of a segment's entries in the fourteen lists.
-pub fn segment_fault(
-    last: bool,
-    e: u32,
-    g: u32,
-    l: u32,
-    a: u32,
-    b: u32,
-    k: u32,
-    ks: u32,
-    h: u32,
-    m: u32,
-    s: u32,
-    cl: u32,
-    cb: u32,
-    kd: u32,
-    start: u32,
-) -> bool
-    ensures { λ r. ⌜ r ≡ segmentFault last (segment e g l a b k ks h m s cl cb kd start) ⌝ }
+// Test 14 of a segment's numbers in a set.
+pub fn numbers_fault(last: bool, x: Numbers) -> bool
+    ensures { λ r. ⌜ r ≡ numbersFault last (numbersSay x) ⌝ }
 {
-    let sums = sum_fault(e, g, l, a, b, k, ks, h, m, s);
-    let numbers = or_above(or_last(sums, last, g), MOST_KD, kd as u64);
+    or_last(x.sum_fault(), last, x.g)
+}
+
+// Test 14 of a segment's entries in the fourteen lists.
+pub fn segment_fault(last: bool, x: Numbers, cl: u32, cb: u32, kd: u32, start: u32) -> bool
+    ensures { λ r. ⌜ r ≡ segmentFault last (record { numbers = numbersSay x; cl = cl; cb = cb; kd = kd; start = start }) ⌝ }
+{
+    let numbers = or_above(numbers_fault(last, x), MOST_KD, kd as u64);
     or_high(or_high(or_high(numbers, cl), cb), start)
 }
 

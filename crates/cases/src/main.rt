@@ -1,5 +1,5 @@
-// Makes a loading of each case on standard input and prints its answer. A case is the sheet's length and the length of
-// the list of reach records, each as a field of a sheet, and then the sheet. Behind the answer stands the sum of each of the fourteen
+// Makes a loading of each case on standard input and prints its answer. A case is the sheet's length, the length of
+// the list of reach records and the flow row's number, each as a field of a sheet, and then the sheet. Behind the answer stands the sum of each of the fourteen
 // lists, which were all full of sevens, so that a refusal that wrote anything would show.
 ghost use Prim.Native.Nat.{_<_};
 ghost use lib.ListN.{length};
@@ -60,6 +60,8 @@ fn answer(a: Load) {
             number(wide(v.rows));
             number(wide(v.gaugesat));
             number(wide(v.gauges));
+            number(wide(v.flowrowsat));
+            number(wide(v.flowrows));
         }
     }
     text(b"\n");
@@ -76,7 +78,7 @@ fn sum(list: &[u32]) {
     number(total);
 }
 
-fn one(sheet: &[u8], records: usize) {
+fn one(sheet: &[u8], row: u32, records: usize) {
     let mut e = [7u32; ROOM];
     let mut g = [7u32; ROOM];
     let mut l = [7u32; ROOM];
@@ -93,6 +95,7 @@ fn one(sheet: &[u8], records: usize) {
     let mut start = [7u32; ROOM];
     answer(Loaded::assemble(
         sheet,
+        row,
         records,
         &mut e,
         &mut g,
@@ -131,10 +134,14 @@ fn case(input: &[u8], at: usize) -> usize
     requires { ⌜ at < length (now input) ⌝ }
     ensures { λ r. ⌜ at < r ⌝ }
 {
-    let begin = at + 8;
+    let begin = at + 12;
     let end = begin + field(input, at) as usize;
     if end <= input.len() {
-        one(&input[begin..end], field(input, at + 4) as usize);
+        one(
+            &input[begin..end],
+            field(input, at + 8),
+            field(input, at + 4) as usize,
+        );
     }
     end
 }

@@ -98,9 +98,11 @@ pub fn any_short(
     )
 }
 
-// "A loading gives each segment's half-step numbers, CL, CB, Kd and start figure in lists": the first n entries of each.
+// "A loading gives each segment's half-step numbers, CL, CB, Kd and start figure in lists": the first n entries of each, with the set of
+// this row's flow.
 pub fn fill(
     sheet: &[u8],
+    row: u32,
     n: usize,
     e: &mut [u32],
     g: &mut [u32],
@@ -117,15 +119,15 @@ pub fn fill(
     kd: &mut [u32],
     start: &mut [u32],
 )
-    requires { ⌜ Read (now sheet) n × Clear 13 n (courseOf (now sheet)) × Long n (columns now e g l a b k ks h m s cl cb kd start) ⌝ }
-    ensures { λ r. ⌜ columns exit e g l a b k ks h m s cl cb kd start ≡ writeSegments (loadedSegments (entry sheet))
+    requires { ⌜ Read (now sheet) n × Clear 13 n (courseOf (now sheet) row) × Long n (columns now e g l a b k ks h m s cl cb kd start) ⌝ }
+    ensures { λ r. ⌜ columns exit e g l a b k ks h m s cl cb kd start ≡ writeSegments (loadedSegments (entry sheet) row)
         (columns entry e g l a b k ks h m s cl cb kd start) ⌝ }
 {
     let step = dx(sheet);
     let mut at = Cursor::start(reach(sheet, 0));
     let mut i: usize = 0;
     while i < n {
-        let here = site(sheet, at, n, i);
+        let here = site(sheet, row, at, n, i);
         let own = here.own;
         let numbers = here.numbers();
         e[i] = numbers.e;

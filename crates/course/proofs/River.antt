@@ -1,5 +1,5 @@
--- What a sheet that tests 1 to 9 pass gives the descent of its river, and tests 10 to 12 of a segment by itself.
-use mathlib.Core.Bool.{false, cond}
+-- What a sheet that its own tests pass gives the descent of its river, and tests 10 to 12 of a segment by itself.
+use mathlib.Core.Bool.{Bool, true, false, cond}
 use mathlib.Core.List.{List}
 use mathlib.Core.Path.{_≡_, refl, sym, ap, _∙_}
 use Prim.Native.Nat.{ℕ, _+_, _^_, _<_, _≤_}
@@ -8,18 +8,18 @@ use borrow.Author.Tests.{ne-eqb}
 use lib.Dec.{eqb}
 use lib.ListN.{length}
 use Rattle.lists.proofs.Tab.{length-tab, getD-tab}
-use Rattle.model.specs.Sheet.{Reach, reachOn, reaches, reachCount, segmentCount, dt, dx, topFlow, sectionEnd, rowCountAt, gaugeCountAt, rowsAt, gaugesAt}
-use Rattle.model.specs.Flow.{Course, courseOf}
+use Rattle.model.specs.Sheet.{Reach, reachOn, reaches, reachCount, segmentCount, dt, dx, sectionEnd, rowCountAt, gaugeCountAt, rowsAt, gaugesAt, hasFlowRows, flowRowCountAt, flowRowCount, flowRowsAt}
+use Rattle.model.specs.Flow.{Course, topOf, courseOf}
 use Rattle.model.specs.HalfStep as HalfStep
 use Rattle.model.specs.Load.{sumFault}
 use Rattle.terms.specs.Says.{reachSays}
 use Rattle.terms.specs.declared.Reach as Code
 use Rattle.halfstep.specs.Ranges.{InRange}
-use Rattle.halfstep.specs.Descent.{reachNo, atTop, reachBelow, further, cursorAt, Descends}
+use Rattle.halfstep.specs.Descent.{reachNo, atTop, reachBelow, further, Descends}
 use Rattle.halfstep.specs.Site.{siteOf, flowFaultOf, faceFaultOf, numbersOf, Passes, StandFor}
 use Rattle.halfstep.specs.declared.Site.{Site}
 use Rattle.halfstep.specs.declared.descent.Cursor.{Cursor}
-use Rattle.halfstep.proofs.Descending.{Along}
+use Rattle.halfstep.proofs.Descending.{Along, Known}
 use Rattle.halfstep.proofs.Sites.{flow-fault-at, face-fault-at, numbers-at}
 use Rattle.halfstep.proofs.Segments.{Sited, Descended, descended-top, known-at, descends-at, descended-next, below-at, sited}
 use Rattle.sheet.proofs.Passed.{ReachWithin, passed}
@@ -46,10 +46,10 @@ pub reach-at : (sheet : List ℕ) (k : ℕ) → k < length (reaches sheet) → r
 unfolding reaches
 reach-at sheet k h = sym (getD-tab (reachOn sheet) (reachCount sheet) k _ (rw length-tab at h))
 
--- the sheet's river
-pub along : {sheet : List ℕ} {n : ℕ} → Read sheet n → Along n (reaches sheet) (courseOf sheet)
+-- the sheet's river with the flow of a row
+pub along : {sheet : List ℕ} {n : ℕ} → Read sheet n → (row : ℕ) → Along n (reaches sheet) (courseOf sheet row)
 unfolding courseOf segmentCount reaches
-along {sheet} {n} r =
+along {sheet} {n} r row =
     let p = passed sheet (r .passed) in
     record {
       river = refl;
@@ -62,6 +62,10 @@ along {sheet} {n} r =
 -- at most 1,024 segments
 pub few : {sheet : List ℕ} {n : ℕ} → Read sheet n → n ≤ 1024
 few {sheet} r = omega (arith, r .count, passed sheet (r .passed) .segments .high)
+
+-- at most 64 flow rows
+pub few-rows : {sheet : List ℕ} {n : ℕ} → Read sheet n → flowRowCount sheet ≤ 64
+few-rows {sheet} r = passed sheet (r .passed) .flowRowCounts
 
 -- where the descent stands is a segment of the river
 pub is-segment : {course : Course} {i : ℕ} {site : Site} → Sited course i site → IsSegment course i site
@@ -113,54 +117,49 @@ some-reach {sheet} r = rw length-tab (passed sheet (r .passed) .reachCounts .low
 
 -- a descent that starts at the top
 pub descended-start : {sheet : List ℕ} {n : ℕ} {first : Code.Reach} {at : Cursor} → Read sheet n → reachSays first ≡ reachOn sheet 0 →
-    at ≡ atTop (reachSays first) → Descended (reaches sheet) (courseOf sheet) 0 at
-descended-start {sheet} r is e = record { same = e ∙ descended-top {course = courseOf sheet} (is ∙ reach-at sheet 0 (some-reach r)) .same }
-
--- the cursor of segment i
-pub stood : (sheet : List ℕ) (i : ℕ) (at : Cursor) → at ≡ cursorAt (reaches sheet) (dx sheet) i → Descended (reaches sheet) (courseOf sheet) i at
-unfolding courseOf
-stood sheet i at e = record { same = e }
-
--- and back
-pub stands : (sheet : List ℕ) (i : ℕ) (at : Cursor) → Descended (reaches sheet) (courseOf sheet) i at → at ≡ cursorAt (reaches sheet) (dx sheet) i
-unfolding courseOf
-stands sheet i at w = w .same
+    at ≡ atTop (reachSays first) → Descended (reaches sheet) (dx sheet) 0 at
+descended-start {sheet} r is e = record { same = e ∙ descended-top {dx = dx sheet} (is ∙ reach-at sheet 0 (some-reach r)) .same }
 
 -- the descent stands at segment i
-module _ {sheet : List ℕ} {n i : ℕ} {at : Cursor} (r : Read sheet n) (h : i < n) (w : Descended (reaches sheet) (courseOf sheet) i at) where
+module _ {sheet : List ℕ} {n i : ℕ} {at : Cursor} (r : Read sheet n) (row : ℕ) (h : i < n) (w : Descended (reaches sheet) (dx sheet) i at) where
+  -- what the cursor has
+  known-here : Known (reaches sheet) (courseOf sheet row) i at
+  unfolding courseOf
+  known-here = known-at (along r row) h w
+
   module _ {own : Code.Reach} (is : reachSays own ≡ reachOn sheet (at .reach)) where
     -- the reach that was read is the segment's
     own-read : reachSays own ≡ reachNo (reaches sheet) (at .reach)
-    own-read = is ∙ reach-at sheet (at .reach) (known-at (along r) h w .stands .known)
+    own-read = is ∙ reach-at sheet (at .reach) (known-here .stands .known)
 
     -- the descent can go on
     pub descends-read : Descends (dx sheet) (reachSays own) at
     unfolding courseOf
-    descends-read = descends-at (along r) h w own-read
+    descends-read = descends-at (along r row) h w own-read
 
     -- the segment, from its reach and the one below
     pub site-read : {below : Code.Reach} (b : ℕ) → b ≡ cond (eqb (i + 1) n) (at .reach) (reachBelow (reachSays own) at) → reachSays below ≡ reachOn sheet b →
-        IsSegment (courseOf sheet) i (siteOf (dt sheet) (dx sheet) (topFlow sheet) at own below (eqb (i + 1) n))
+        IsSegment (courseOf sheet row) i (siteOf (dt sheet) (dx sheet) (topOf sheet row) at own below (eqb (i + 1) n))
     unfolding courseOf
     site-read b e f =
         is-segment
-        (sited (along r) h w own-read
-        (f ∙ ap (reachOn sheet) e ∙ reach-at sheet _ (below-at (along r) h w own-read .known)))
+        (sited (along r row) h w own-read
+        (f ∙ ap (reachOn sheet) e ∙ reach-at sheet _ (below-at (along r row) h w own-read .known)))
 
   -- and goes on from there
-  module _ {site : Site} (s : IsSegment (courseOf sheet) i site) {step : ℕ} (d : step ≡ dx sheet) where
+  module _ {site : Site} (s : IsSegment (courseOf sheet row) i site) {step : ℕ} (d : step ≡ dx sheet) where
     -- the site's reach is the cursor's
     own-here : reachSays (site .own) ≡ reachNo (reaches sheet) (at .reach)
-    own-here = sym (s .own) ∙ known-at (along r) h w .own
+    own-here = sym (s .own) ∙ known-here .own
 
     pub descends-here : Descends step (reachSays (site .own)) at
     unfolding courseOf
-    descends-here = rw d (descends-at (along r) h w own-here)
+    descends-here = rw d (descends-at (along r row) h w own-here)
 
     -- one segment further
-    pub descended-here : {next : Cursor} → next ≡ further step (reachSays (site .own)) at → Descended (reaches sheet) (courseOf sheet) (i + 1) next
+    pub descended-here : {next : Cursor} → next ≡ further step (reachSays (site .own)) at → Descended (reaches sheet) (dx sheet) (i + 1) next
     unfolding courseOf
-    descended-here e = record { same = e ∙ rw d (descended-next (along r) h w own-here .same) }
+    descended-here e = record { same = e ∙ rw d (descended-next (along r row) h w own-here .same) }
 
 -- which test a number names
 module _ (number : ℕ) (site : Site) where
@@ -176,12 +175,20 @@ module _ (number : ℕ) (site : Site) where
   unfolding siteFault
   site-sum p q = rw (ne-eqb _ _ p, ne-eqb _ _ q)
 
--- where the rows and the gauges begin fits 32 bits
+-- where the rows, the gauges and the flow rows begin fits 32 bits
 module _ {sheet : List ℕ} {n : ℕ} (r : Read sheet n) where
-  pub rows-fit : rowsAt sheet < 2 ^ 31
+  pub rows-fit : rowsAt sheet < 2 ^ 13
   unfolding rowCountAt sectionEnd
   rows-fit = omega (arith, passed sheet (r .passed) .reachCounts .high)
 
-  pub gauges-fit : gaugesAt sheet < 2 ^ 32
+  pub gauges-fit : gaugesAt sheet < 2 ^ 14
   unfolding gaugeCountAt sectionEnd
   gauges-fit = omega (arith, rows-fit, passed sheet (r .passed) .rowCounts .high)
+
+  pub flow-rows-fit : flowRowsAt sheet < 2 ^ 15
+  unfolding flowRowsAt flowRowCountAt sectionEnd
+  flow-rows-fit = fit (hasFlowRows sheet)
+    where
+      fit : (t : Bool) → cond t (flowRowCountAt sheet + 4) 0 < 2 ^ 15
+      fit true = omega (arith, gauges-fit, passed sheet (r .passed) .gaugeCounts .high)
+      fit false = omega arith

@@ -4,8 +4,8 @@ use mathlib.Core.List.{List}
 use mathlib.Core.Path.{_≡_}
 use Prim.Native.Nat.{ℕ, _<_, _≤_}
 use lib.Dec.{eqb}
-use Rattle.model.specs.Sheet.{segmentCount}
-use Rattle.model.specs.Flow.{Course, reachAt}
+use Rattle.model.specs.Sheet.{segmentCount, flowRowCount}
+use Rattle.model.specs.Flow.{Course, courseOf, reachAt}
 use Rattle.model.specs.HalfStep as HalfStep
 use Rattle.model.specs.Load.{flowFault, faceFault, sumFault, sheetTests}
 use Rattle.model.specs.Refusals.{passes, first}
@@ -31,13 +31,17 @@ siteFault number site =
 pub record Clear (number n : ℕ) (course : Course) : Type 0 where
   pub each : (k : ℕ) → 10 ≤ k → k < number → (i : ℕ) → i < n → courseFault k course i ≡ false
 
+-- and that with the top flow and with the flow of every row
+pub record ClearFlows (number n : ℕ) (sheet : List ℕ) : Type 0 where
+  pub each : (row : ℕ) → row ≤ flowRowCount sheet → Clear number n (courseOf sheet row)
+
 -- and not this segment
 pub record ClearSite (number : ℕ) (site : Site) : Type 0 where
   pub low : 10 ≤ number
   pub fields : Fields site
   pub each : (k : ℕ) → 10 ≤ k → k < number → siteFault k site ≡ false
 
--- tests 1 to 9 pass, and the river has n segments
+-- the sheet's own tests pass, and the river has n segments
 pub record Read (sheet : List ℕ) (n : ℕ) : Type 0 where
   pub passed : first (sheetTests sheet) ≡ passes
   pub count : n ≡ segmentCount sheet

@@ -1,31 +1,41 @@
-// The segments of a sheet that tests 1 to 9 pass, one after another down the river, and tests 10 to 12.
+// The segments of a sheet that its own tests pass, one after another down the river, and tests 10 to 12 with each of its flows.
 ghost use mathlib.Core.Path.{_≡_};
 ghost use Prim.Native.Nat.{_<_, _≤_};
-ghost use Rattle.model.specs.Sheet.{dx, reaches};
+ghost use Rattle.model.specs.Sheet.{dx, reaches, flowRowCount};
 ghost use Rattle.model.specs.Flow.{courseOf};
 ghost use Rattle.model.specs.Refusals.{segment, testEach};
+ghost use Rattle.model.specs.Load.{testFlows};
 ghost use Rattle.terms.specs.Says.{findingSays};
 ghost use Rattle.lists.specs.Lent.{entry};
 ghost use Rattle.halfstep.specs.Descent.{cursorAt};
-ghost use Rattle.course.specs.Segments.{courseFault, siteFault, Clear, ClearSite, Read, IsSegment};
+ghost use Rattle.course.specs.Segments.{courseFault, siteFault, Clear, ClearFlows, ClearSite, Read, IsSegment};
 use halfstep::Site;
 use halfstep::descent::Cursor;
 use sheet::fields::dt;
 use sheet::fields::dx;
+use sheet::fields::flow_row_count;
 use sheet::fields::reach;
-use sheet::fields::top_flow;
+use sheet::fields::top_of;
 use terms::Finding;
 use terms::Place;
 
-// Segment i of n, where the descent of the river stands.
-pub fn site(sheet: &[u8], at: Cursor, n: usize, i: usize) -> Site
+// Segment i of n with the flow of this row, where the descent of the river stands.
+pub fn site(sheet: &[u8], row: u32, at: Cursor, n: usize, i: usize) -> Site
     requires { ⌜ Read (now sheet) n × (i < n) × (at ≡ cursorAt (reaches (now sheet)) (dx (now sheet)) i) ⌝ }
-    ensures { λ r. ⌜ IsSegment (courseOf (entry sheet)) i r ⌝ }
+    ensures { λ r. ⌜ IsSegment (courseOf (entry sheet) row) i r ⌝ }
 {
     let own = reach(sheet, at.reach as usize);
     let last = i + 1 == n;
     let below = reach(sheet, at.below(own, last) as usize);
-    Site::new(at, own, below, last, top_flow(sheet), dt(sheet), dx(sheet))
+    Site::new(
+        at,
+        own,
+        below,
+        last,
+        top_of(sheet, row),
+        dt(sheet),
+        dx(sheet),
+    )
 }
 
 // 10. "A flow is below 0 or above 100,000,000", 11. "Q × dx exceeds AD own + AD below", 12. "T, V or h exceeds one whole".
@@ -42,21 +52,38 @@ fn fault(number: u32, site: Site) -> bool
     site.numbers().sum_fault()
 }
 
-// Test 10, 11 or 12 over the whole river: "the lowest at fault".
-pub fn course_test(sheet: &[u8], n: usize, number: u32) -> Finding
-    requires { ⌜ Read (now sheet) n × (10 ≤ number) × Clear number n (courseOf (now sheet)) ⌝ }
-    ensures { λ r. ⌜ findingSays r ≡ testEach number segment n (courseFault number (courseOf (entry sheet))) ⌝ }
+// Test 10, 11 or 12 over the whole river with the flow of this row: "the lowest at fault".
+fn course_test(sheet: &[u8], row: u32, n: usize, number: u32) -> Finding
+    requires { ⌜ Read (now sheet) n × (10 ≤ number) × Clear number n (courseOf (now sheet) row) ⌝ }
+    ensures { λ r. ⌜ findingSays r ≡ testEach number segment n (courseFault number (courseOf (entry sheet) row)) ⌝ }
 {
     let step = dx(sheet);
     let mut at = Cursor::start(reach(sheet, 0));
     let mut i: usize = 0;
     while i < n {
-        let here = site(sheet, at, n, i);
+        let here = site(sheet, row, at, n, i);
         if fault(number, here) {
             return Finding::Fails(number, Place::Segment(i as u32 + 1));
         }
         at = at.next(here.own, step);
         i += 1;
+    }
+    Finding::Passes
+}
+
+// The test "made for the top flow and then for every row in turn"; "the first flow at fault gives the place".
+pub fn flows_test(sheet: &[u8], n: usize, number: u32) -> Finding
+    requires { ⌜ Read (now sheet) n × (10 ≤ number) × ClearFlows number n (now sheet) ⌝ }
+    ensures { λ r. let s = entry sheet in ⌜ findingSays r ≡ testFlows (flowRowCount s)
+        (λ row. testEach number segment n (courseFault number (courseOf s row))) ⌝ }
+{
+    let rows = flow_row_count(sheet);
+    let mut row: u32 = 0;
+    while row <= rows {
+        if let Finding::Fails(number, place) = course_test(sheet, row, n, number) {
+            return Finding::Fails(number, place);
+        }
+        row += 1;
     }
     Finding::Passes
 }

@@ -1,5 +1,6 @@
 pub mod Tests
 pub mod ReadBack
+pub mod Lent
 pub mod Distance
 pub mod Unique
 pub mod Reports

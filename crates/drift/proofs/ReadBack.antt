@@ -1,9 +1,9 @@
 -- Figures written over the first entries of the state's lists are read back.
-use mathlib.Core.Path.{_≡_, refl, sym, ap, ap₂, _∙_}
+use mathlib.Core.Path.{_≡_, refl, ap, _∙_}
 use mathlib.Core.List.{List, [], _∷_, _++_, map}
 use Prim.Native.Nat.{ℕ, zero, suc}
 use lib.ListN.{length, getD}
-use Rattle.lists.specs.Lists.{tab, over}
+use Rattle.lists.specs.Lists.{tab}
 use Rattle.model.specs.Equations.{Figures}
 use Rattle.model.specs.State.{State, figuresAt, figuresOf, writeFigures}
 

@@ -9,8 +9,7 @@ use Rattle.fractions.proofs.Differences.{Difference, _⊡_}
 use Rattle.fractions.proofs.Over.{Over, over-sum, over-difference, over-multiple, over-whole, over-own, over-scaled, over-as, same-up-to, up-to-same}
 use Rattle.rounding.specs.Nearest.{S}
 use Rattle.model.specs.HalfStep.{Numbers}
-use Rattle.model.specs.Equations.{sumT, sumV}
-use Rattle.model.specs.TwoSets.{Pair}
+use Rattle.model.specs.Equations.{Pair, sumT, sumV}
 use Rattle.model.specs.ExactRiver.{ExactFigures, exactBelow}
 use Rattle.model.specs.Claim.{SameFigures}
 use Rattle.exact.proofs.Sides.{Differences, EachUpTo, AllUpTo, below, left, right}
@@ -67,7 +66,7 @@ same-of-all h (cons x xs) (cons y ys) (AllUpTo.cons a more) (AllUpTo.cons b less
 
 -- ---- the sides of the three equations
 
--- as fractions: `PairSolves` says that the two are the same figures
+-- as fractions: `Solves` says that the two are the same figures
 abbrev pub exactLeft : Numbers → (above below : Fraction) → ExactFigures → ExactFigures
 exactLeft n above below q = record {
   c = (S + sumT n) · q .c ⊖ n .e · above ⊖ n .g · below ⊖ n .a · q .z ⊖ n .s · q .w;

@@ -10,8 +10,7 @@ use mathlib.Core.Path.{_≡_}
 use Rattle.fractions.proofs.Differences.{Difference, _⊞_, _⊟_, _⊡_, UpTo}
 use Rattle.rounding.specs.Nearest.{S}
 use Rattle.model.specs.HalfStep.{Numbers}
-use Rattle.model.specs.Equations.{sumT, sumV}
-use Rattle.model.specs.TwoSets.{Pair}
+use Rattle.model.specs.Equations.{Pair, sumT, sumV}
 use Rattle.exact.proofs.Sides.{Differences, EachUpTo, AllUpTo, none, cons, below, left}
 
 -- two rivers u and v with the same numbers, the new ones of xs, and ua and va above: the left sides of u are at most those of v, up

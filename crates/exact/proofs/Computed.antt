@@ -5,10 +5,9 @@ use mathlib.Core.List.{List, [], _∷_, map}
 use Prim.Native.Nat.{ℕ, _*_}
 use native.Mathlib.Omega.{arith}
 use Rattle.fractions.proofs.Differences.{natural}
-use Rattle.model.specs.Equations.{Figures}
+use Rattle.model.specs.Equations.{Figures, Pair}
 use Rattle.model.specs.Sweep as Sweep
-use Rattle.model.specs.Sweep.{rows}
-use Rattle.model.specs.TwoSets.{Pair, pairRow, pairFigures}
+use Rattle.model.specs.Sweep.{rowOf, rows, newFigures}
 use Rattle.stability.specs.Accepted.{Accepted}
 use Rattle.stability.proofs.Accepted.{All}
 use Rattle.stability.proofs.Passes.{first}
@@ -23,7 +22,7 @@ abbrev pub uncut : List Pair → List Figures → List ℕ → List Figures
 uncut [] fs cs = []
 uncut (x ∷ xs) [] cs = []
 uncut (x ∷ xs) (f ∷ fs) [] = []
-uncut (x ∷ xs) (f ∷ fs) (c ∷ cs) = pairFigures x f c ∷ uncut xs fs cs
+uncut (x ∷ xs) (f ∷ fs) (c ∷ cs) = newFigures x f c ∷ uncut xs fs cs
 
 -- one figure for each segment
 pub data Each {A : Type 0} {B : Type 0} : List A → List B → Type 0 where
@@ -33,13 +32,13 @@ pub data Each {A : Type 0} {B : Type 0} : List A → List B → Type 0 where
 -- ---- one segment
 
 -- the row that a computed figure solves, over D
-computed-row : (D : ℕ) (x : Pair) (f : Figures) (above below xa c xb : ℕ) → Accepted x → Solves (pairRow x above below f) xa c xb →
+computed-row : (D : ℕ) (x : Pair) (f : Figures) (above below xa c xb : ℕ) → Accepted x → Solves (rowOf x above below f) xa c xb →
     let a′ = natural (xa * D) in
     let b′ = natural (xb * D) in
     let a = natural (above * D) in
     let b = natural (below * D) in
-    (LeftUpTo D (defect * D) x a′ b′ a b (wholes D f) (wholes D (pairFigures x f c)))
-    × (RightUpTo D (defect * D) x a′ b′ a b (wholes D f) (wholes D (pairFigures x f c)))
+    (LeftUpTo D (defect * D) x a′ b′ a b (wholes D f) (wholes D (newFigures x f c)))
+    × (RightUpTo D (defect * D) x a′ b′ a b (wholes D f) (wholes D (newFigures x f c)))
 computed-row D x f above below xa c xb ok row =
     let d = row-over D x f (ok .new) above below xa c xb row in
     let r = rights-over D x above below f in
@@ -53,16 +52,16 @@ below-wholes D [] = ap natural (omega arith)
 below-wholes D (f ∷ fs) = refl
 
 first-wholes : (D above : ℕ) {xa : ℕ} {xs : List Pair} {fs : List Figures} {cs : List ℕ} → Each xs fs →
-    Near xa (rows pairRow above xs fs) cs → below (map (wholes D) (uncut xs fs cs)) ≡ natural (first cs * D)
-unfolding pairFigures
+    Near xa (rows above xs fs) cs → below (map (wholes D) (uncut xs fs cs)) ≡ natural (first cs * D)
+unfolding newFigures
 first-wholes D above none Near.none = ap natural (omega arith)
 first-wholes D above (cons e) (Near.row row near) = refl
 
 -- what the passes leave solves the equations up to the defect
 pub computed-rows : (D above : ℕ) {xa : ℕ} {xs : List Pair} {fs : List Figures} {cs : List ℕ} → All Accepted xs → Each xs fs →
-    Near xa (rows pairRow above xs fs) cs →
+    Near xa (rows above xs fs) cs →
     SolvesUpTo D (defect * D) (natural (xa * D)) (natural (above * D)) xs (map (wholes D) fs) (map (wholes D) (uncut xs fs cs))
-unfolding pairFigures
+unfolding newFigures
 computed-rows D above All.none none Near.none = (last, last)
 computed-rows D above (All.cons {x} ok oks) (cons {y = f} {ys = fs} e) (Near.row {xa} {x = c} {xs = cs} row near) =
     let r = computed-row D x f above (Sweep.below fs) xa c (first cs) ok row in

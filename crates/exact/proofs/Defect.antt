@@ -9,9 +9,8 @@ use Rattle.fractions.proofs.Over.{times}
 use Rattle.rounding.specs.Nearest.{S}
 use Rattle.rounding.proofs.Laws.{Rounds, rounds, by}
 use Rattle.model.specs.HalfStep.{Numbers}
-use Rattle.model.specs.Equations.{Figures, sumT, sumV}
-use Rattle.model.specs.Sweep.{F}
-use Rattle.model.specs.TwoSets.{Pair, pairChannel, pairStorage, pairSediment, pairP, pairN, pairRow, pairFigures}
+use Rattle.model.specs.Equations.{Figures, Pair, sumT, sumV, channelRight, storageRight, sedimentRight}
+use Rattle.model.specs.Sweep.{P, N, F, R, rowOf, newStorage, newSediment, newFigures}
 use Rattle.stability.specs.Accepted.{Sums}
 use Rattle.stability.proofs.Accepted.{storage-quotient, sediment-quotient}
 use Rattle.stability.proofs.Solves.{Solves}
@@ -55,7 +54,7 @@ wholes D f = record { c = natural (f .c * D); z = natural (f .z * D); w = natura
 
 -- the three right sides of a segment
 abbrev pub rights : Pair → (above below : ℕ) → Figures → Figures
-rights x above below f = record { c = pairChannel x above below f; z = pairStorage x f; w = pairSediment x f }
+rights x above below f = record { c = channelRight x above below f; z = storageRight x f; w = sedimentRight x f }
 
 module _ (D t e g a s xa c xb z w r k : ℕ) where
   abbrev side : Difference
@@ -77,34 +76,34 @@ store-over D t b c z r small hz =
 module _ (D : ℕ) (x : Pair) (f : Figures) (sums : Sums (x .new)) where
   -- storage and sediment, for any channel figure c
   pub storage-over : (c : ℕ) →
-      let side = (S + sumV (x .new)) ⊡ natural (pairFigures x f c .z * D) ⊟ x .new .b ⊡ natural (c * D) in
-      (UpTo (S * D) side (natural (pairStorage x f * D))) × (UpTo (S * D) (natural (pairStorage x f * D)) side)
-  unfolding pairFigures
-  storage-over c = store-over D (S + sumV (x .new)) (x .new .b) c _ (pairStorage x f) (omega (arith, sums .v)) (rounds _ _ (omega arith))
+      let side = (S + sumV (x .new)) ⊡ natural (newFigures x f c .z * D) ⊟ x .new .b ⊡ natural (c * D) in
+      (UpTo (S * D) side (natural (storageRight x f * D))) × (UpTo (S * D) (natural (storageRight x f * D)) side)
+  unfolding newFigures newStorage
+  storage-over c = store-over D (S + sumV (x .new)) (x .new .b) c _ (storageRight x f) (omega (arith, sums .v)) (rounds _ _ (omega arith))
 
   pub sediment-over : (c : ℕ) →
-      let side = (S + x .new .h) ⊡ natural (pairFigures x f c .w * D) ⊟ x .new .h ⊡ natural (c * D) in
-      (UpTo (S * D) side (natural (pairSediment x f * D))) × (UpTo (S * D) (natural (pairSediment x f * D)) side)
-  unfolding pairFigures
-  sediment-over c = store-over D (S + x .new .h) (x .new .h) c _ (pairSediment x f) (omega (arith, sums .h)) (rounds _ _ (omega arith))
+      let side = (S + x .new .h) ⊡ natural (newFigures x f c .w * D) ⊟ x .new .h ⊡ natural (c * D) in
+      (UpTo (S * D) side (natural (sedimentRight x f * D))) × (UpTo (S * D) (natural (sedimentRight x f * D)) side)
+  unfolding newFigures newSediment
+  sediment-over c = store-over D (S + x .new .h) (x .new .h) c _ (sedimentRight x f) (omega (arith, sums .h)) (rounds _ _ (omega arith))
 
   -- all three, for what the passes leave
-  pub row-over : (above below xa c xb : ℕ) → Solves (pairRow x above below f) xa c xb →
-      let l = left (x .new) (natural (xa * D)) (natural (xb * D)) (wholes D (pairFigures x f c)) in
+  pub row-over : (above below xa c xb : ℕ) → Solves (rowOf x above below f) xa c xb →
+      let l = left (x .new) (natural (xa * D)) (natural (xb * D)) (wholes D (newFigures x f c)) in
       let r = wholes D (rights x above below f) in
       (EachUpTo (defect * D) l r) × (EachUpTo (defect * D) r l)
-  unfolding pairRow pairP pairN pairFigures F
+  unfolding rowOf R P N newFigures newStorage newSediment F
   row-over above below xa c xb row =
       let n = x .new in
-      let r = pairChannel x above below f in
+      let r = channelRight x above below f in
       let v : 0 < S + sumV n = omega arith in
       let h : 0 < S + n .h = omega arith in
       let q₁ = rounds (n .a * (S + n .ks + n .m)) (S + sumV n) v in
       let q₂ = rounds (n .s * S) (S + n .h) h in
-      let P = rounds (pairStorage x f) (S + sumV n) v in
-      let N = rounds (pairSediment x f) (S + n .h) h in
-      let z = rounds (pairStorage x f + n .b * c) (S + sumV n) v in
-      let w = rounds (pairSediment x f + n .h * c) (S + n .h) h in
+      let P = rounds (storageRight x f) (S + sumV n) v in
+      let N = rounds (sedimentRight x f) (S + n .h) h in
+      let z = rounds (storageRight x f + n .b * c) (S + sumV n) v in
+      let w = rounds (sedimentRight x f + n .h * c) (S + n .h) h in
       let channel = channel-over D (S + sumT n) (n .e) (n .g) (n .a) (n .s) xa c xb _ _ r defect
       (channel-high n xa c xb _ _ _ _ _ _ r sums (row .most) (storage-quotient n) (sediment-quotient n) (row .high)
       (exchange-high _ (n .b) (S + n .ks + n .m) (n .a) _ c _ _ _ (omega arith) v q₁ P z)

@@ -1,8 +1,8 @@
 -- "Such fractions always exist": one step, from any figures. The equations are solved for the positive and for the negative part of the
 -- right sides, and the solution is the difference.
-use mathlib.Core.Path.{_≡_}
+use mathlib.Core.Path.{_≡_, refl, ap}
 use mathlib.Core.List.{List, [], _∷_}
-use Prim.Native.Nat.{ℕ, _+_, _*_, _<_}
+use Prim.Native.Nat.{ℕ, suc, _+_, _*_, _<_}
 use native.Mathlib.Nat.{mul-pos}
 use native.Mathlib.Omega.{arith}
 use lib.ListN.{length}
@@ -10,11 +10,9 @@ use Rattle.fractions.specs.Fractions.{Fraction}
 use Rattle.fractions.proofs.Differences.{Difference, _⊟_, _⊡_, UpTo}
 use Rattle.fractions.proofs.Over.{Over, times, quotient, over-quotient}
 use Rattle.rounding.specs.Nearest.{S}
-use Rattle.model.specs.Equations.{Figures, sumT, sumV}
+use Rattle.model.specs.Equations.{Figures, Pair, sumT, sumV}
 use Rattle.model.specs.Sweep.{below}
-use Rattle.model.specs.TwoSets.{Pair}
 use Rattle.model.specs.ExactRiver.{ExactFigures, Along, last, next, exactBelow}
-use Rattle.exact.specs.PairEquations.{PairSolves}
 use Rattle.exact.proofs.Sides as Sides
 use Rattle.exact.proofs.Sides.{Differences, EachUpTo, left, right}
 use Rattle.exact.proofs.CommonDenominator.{FiguresOver, AllOver, below-over, same-of-each, left-over, right-over, scaled, figures-scaled, common, ends}
@@ -75,7 +73,7 @@ over-quotients D h f = record { c = over-quotient D h (f .c); z = over-quotient 
 record Built (E : ℕ) (above′ above : Fraction) (xs : List Pair) (old : List ExactFigures) (first : Difference) : Type 0 where
   new : List ExactFigures
   over : Over E (exactBelow new) first
-  solves : Along PairSolves above′ above xs old new
+  solves : Along above′ above xs old new
 
 -- the new figures of all segments, and that they solve the equations
 build : {D q p m : ℕ} {a : Difference} {above′ above : Fraction} (xs : List Pair) {old : List ExactFigures} {os : List Differences}
@@ -102,13 +100,13 @@ build {D} {q} (x ∷ xs) h (AllOver.cons o os) e (AllSolved.next {f} y ys) (AllS
 
 -- from any figures, one for each segment, and any figures above
 pub exists : (above′ above : Fraction) (xs : List Pair) (old : List ExactFigures) → length old ≡ length xs →
-    (new : List ExactFigures) × Along PairSolves above′ above xs old new
+    (new : List ExactFigures) × Along above′ above xs old new
 exists above′ above xs old e =
     let c = common (ends above′ above ∷ old) in
     go (c .D) (c .above) (c .spread .over)
   where
     go : (D : ℕ) → 0 < D → {fs : List Differences} → AllOver D (ends above′ above ∷ old) fs →
-        (new : List ExactFigures) × Along PairSolves above′ above xs old new
+        (new : List ExactFigures) × Along above′ above xs old new
     go D h (AllOver.cons {f = a} {fs = os} o overs) =
         let r = rest (givens D (a .z) xs os) in
         let p = r .solve plus (a .c .plus) 1 in
@@ -117,3 +115,8 @@ exists above′ above xs old e =
         record { parts = omega (arith, times (r .P) (o .c .parts)) } in
         let b = build xs (mul-pos h (mul-pos (omega arith) (r .above))) overs e (p .1) (m .1) top (o .z) in
         (b .new, b .solves)
+
+-- there is one new figure for each segment, so that the next step exists too
+pub new-length : {above′ above : Fraction} {xs : List Pair} {old new : List ExactFigures} → Along above′ above xs old new → length new ≡ length xs
+new-length last = refl
+new-length (next row rows) = ap suc (new-length rows)

@@ -1,4 +1,3 @@
-pub mod OldIsNew
 pub mod Sides
 pub mod Comparison
 pub mod CommonDenominator
@@ -10,4 +9,4 @@ pub mod Range
 pub mod Defect
 pub mod Computed
 pub mod Step
-pub mod OneSet
+pub mod Close

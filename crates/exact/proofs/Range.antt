@@ -10,12 +10,10 @@ use Rattle.fractions.proofs.Over.{Over, over-whole}
 use Rattle.fractions.proofs.Bounds.{most-up-to, up-to-most, zero-up-to, up-to-zero}
 use Rattle.rounding.specs.Nearest.{S}
 use Rattle.model.specs.Ranges.{highest}
-use Rattle.model.specs.Equations.{sumT, sumV}
-use Rattle.model.specs.TwoSets.{Pair}
+use Rattle.model.specs.Equations.{Pair, sumT, sumV}
 use Rattle.model.specs.ExactRiver.{ExactFigures, Along}
 use Rattle.stability.specs.Accepted.{Accepted}
 use Rattle.stability.proofs.Accepted.{All}
-use Rattle.exact.specs.PairEquations.{PairSolves}
 use Rattle.exact.specs.Close.{InRange, FiguresInRange}
 use Rattle.exact.proofs.Sides.{Differences, AllUpTo, below}
 use Rattle.exact.proofs.CommonDenominator.{AllOver, common, ends, split}
@@ -142,7 +140,7 @@ whole-in-range {u} l = in-range (omega arith) (over-whole 1 u) (omega arith) (om
 
 -- figures in range before a step, and above the river, give figures in range after it
 pub range : {above′ above : Fraction} {xs : List Pair} {old new : List ExactFigures} → All Accepted xs → InRange above′ → InRange above →
-    All FiguresInRange old → Along PairSolves above′ above xs old new → All FiguresInRange new
+    All FiguresInRange old → Along above′ above xs old new → All FiguresInRange new
 range {above′} {above} {xs} {old} {new} oks r′ r olds solves =
     let c = common (ends above′ above ∷ old ++ new) in
     go (c .D) (c .above) (c .spread .over)

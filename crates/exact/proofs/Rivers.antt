@@ -6,10 +6,9 @@ use Rattle.fractions.specs.Fractions.{Fraction}
 use Rattle.fractions.proofs.Differences.{Difference, UpTo}
 use Rattle.fractions.proofs.Over.{Over}
 use Rattle.rounding.specs.Nearest.{S}
-use Rattle.model.specs.TwoSets.{Pair}
+use Rattle.model.specs.Equations.{Pair}
 use Rattle.model.specs.ExactRiver.{ExactFigures, Along}
 use Rattle.stability.proofs.Accepted.{All}
-use Rattle.exact.specs.PairEquations.{PairSolves}
 use Rattle.exact.proofs.Sides.{Differences, EachUpTo, each-trans, AllUpTo, below, below-up-to, left, right, Steady, steady-zero, right-up-to}
 use Rattle.exact.proofs.Comparison.{Compared, compare}
 use Rattle.exact.proofs.CommonDenominator.{AllOver, below-over, each-of-same, left-over, right-over}
@@ -60,7 +59,7 @@ apart G steadies us vs above′ above olds slack = compare above′ (compared st
 -- an exact river solves them with no defect
 pub exact-rows : {D : ℕ} {above′ above : Fraction} {a′ a : Difference} {xs : List Pair} {old new : List ExactFigures}
     {os ns : List Differences} →
-    Along PairSolves above′ above xs old new → Over D above′ a′ → Over D above a → AllOver D old os → AllOver D new ns →
+    Along above′ above xs old new → Over D above′ a′ → Over D above a → AllOver D old os → AllOver D new ns →
     SolvesUpTo D 0 a′ a xs os ns
 exact-rows Along.last a′ a AllOver.none AllOver.none = (last, last)
 exact-rows (Along.next {x} row rows) a′ a (AllOver.cons o os) (AllOver.cons n ns) =

@@ -6,8 +6,7 @@ use native.Mathlib.Omega.{arith}
 use Rattle.fractions.proofs.Differences.{Difference, natural, _⊞_, _⊟_, _⊡_, UpTo, up-to-self, up-to-trans, up-to-weaker, up-to-sum, up-to-multiple}
 use Rattle.rounding.specs.Nearest.{S}
 use Rattle.model.specs.HalfStep.{Numbers}
-use Rattle.model.specs.Equations.{sumT, sumV}
-use Rattle.model.specs.TwoSets.{Pair}
+use Rattle.model.specs.Equations.{Pair, sumT, sumV}
 use Rattle.stability.specs.Accepted.{Sums}
 
 -- channel, storage and sediment; also the three left sides, and the three right sides

@@ -5,20 +5,18 @@ use Prim.Native.Nat.{ℕ, _+_, _*_, _<_, _≤_, zero-le}
 use native.Mathlib.Nat.{mul-le-mul-right, min-le-left, min-le-right, min-eq-left, min-eq-right, lt-of-not-le, le-of-lt}
 use native.Mathlib.Decide.{decLe}
 use native.Mathlib.Omega.{arith}
-use Rattle.fractions.specs.Fractions.{Fraction, whole}
+use Rattle.fractions.specs.Fractions.{Fraction}
 use Rattle.fractions.proofs.Differences.{Difference, natural, UpTo, up-to-self, up-to-weaker, up-to-chain}
 use Rattle.fractions.proofs.Over.{over-whole}
 use Rattle.fractions.proofs.Bounds.{within-up-to, up-to-within, most-up-to}
 use Rattle.rounding.specs.Nearest.{S}
 use Rattle.model.specs.Ranges.{highest}
-use Rattle.model.specs.Equations.{Figures, sumV}
-use Rattle.model.specs.Sweep.{top, down, up, clamp, rows, finish}
-use Rattle.model.specs.TwoSets.{Pair, pairRow, pairFigures, pairDownward, pairStepped}
-use Rattle.model.specs.ExactRiver.{ExactFigures, Along}
+use Rattle.model.specs.Equations.{Figures, Pair, sumV}
+use Rattle.model.specs.Sweep.{top, down, up, clamp, rows, newFigures, finish, downward, stepped}
+use Rattle.model.specs.ExactRiver.{ExactFigures, Along, ExactStep}
 use Rattle.stability.specs.Accepted.{Accepted, AtMost}
 use Rattle.stability.proofs.Accepted.{All, figures-most, rows-fit}
 use Rattle.stability.proofs.Solves.{Near, sweep-solves}
-use Rattle.exact.specs.PairEquations.{PairSolves, PairStep}
 use Rattle.exact.specs.Close.{perStep, FiguresInRange, FiguresClose, Close}
 use Rattle.exact.proofs.Sides.{Differences, EachUpTo, AllUpTo, Steady, steady, right-up-to}
 use Rattle.exact.proofs.Comparison.{store-follows}
@@ -54,8 +52,8 @@ figures-step : {D E : ℕ} (c : ℕ) (x : Pair) {f : Figures} {q q′ : ExactFig
     0 < D → Accepted x → FiguresClose E f q → FiguresOver D q o → FiguresOver D q′ n → FiguresInRange q′ →
     LeftUpTo D 0 x a′ b′ a b o n → RightUpTo D 0 x a′ b′ a b o n →
     UpTo ((E + perStep) * D) (natural (c * D)) (n .c) → UpTo ((E + perStep) * D) (n .c) (natural (c * D)) →
-    FiguresClose (E + perStep) (pairFigures x f (clamp c)) q′
-unfolding pairFigures
+    FiguresClose (E + perStep) (newFigures x f (clamp c)) q′
+unfolding newFigures
 figures-step {D} {E} c x {f} {a} {b} h ok close old new range leftRow rightRow high low =
     let n = x .new in
     let olds = figures-over h close old in
@@ -93,10 +91,10 @@ olds-over h (Close.cons close closes) (AllOver.cons over overs) =
 -- the new figures, where the channel figures cs that the passes leave are within E + 6 of the exact ones
 all-step : {D E : ℕ} (above : ℕ) {xa : ℕ} {a′ a : Difference} {xs : List Pair} {fs : List Figures} {cs : List ℕ} {old new : List ExactFigures}
     {os ns : List Differences} → 0 < D → Rows (LeftUpTo D 0) a′ a xs os ns → Rows (RightUpTo D 0) a′ a xs os ns → AllOver D old os →
-    AllOver D new ns → Close E fs old → All FiguresInRange new → All Accepted xs → Near xa (rows pairRow above xs fs) cs →
+    AllOver D new ns → Close E fs old → All FiguresInRange new → All Accepted xs → Near xa (rows above xs fs) cs →
     AllUpTo ((E + perStep) * D) (map (wholes D) (uncut xs fs cs)) ns → AllUpTo ((E + perStep) * D) ns (map (wholes D) (uncut xs fs cs)) →
-    Close (E + perStep) (finish pairFigures xs fs cs) new
-unfolding pairFigures
+    Close (E + perStep) (finish xs fs cs) new
+unfolding newFigures
 all-step above h last last AllOver.none AllOver.none Close.none All.none All.none Near.none AllUpTo.none AllUpTo.none = Close.none
 all-step above h (next l ls) (next r rs) (AllOver.cons o os) (AllOver.cons n ns) (Close.cons {f} close closes) (All.cons range ranges)
     (All.cons {x} ok oks) (Near.row {x = c} row near) (AllUpTo.cons high highs) (AllUpTo.cons low lows) =
@@ -120,22 +118,22 @@ steadies k (All.cons ok oks) = All.cons (steady k (ok .old)) (steadies k oks)
 
 -- there is a computed figure for each segment
 each : {E : ℕ} {above′ above : Fraction} {xs : List Pair} {fs : List Figures} {old new : List ExactFigures} →
-    Along PairSolves above′ above xs old new → Close E fs old → Each xs fs
+    Along above′ above xs old new → Close E fs old → Each xs fs
 each Along.last Close.none = Each.none
 -- there is a computed figure for each segment
 each (Along.next row rows) (Close.cons close closes) = Each.cons (each rows closes)
 
--- one step for an old and a new set of numbers
-pub pair-step : {E : ℕ} (u u′ : ℕ) {xs : List Pair} {fs : List Figures} {old new : List ExactFigures} → u ≤ highest → u′ ≤ highest →
-    All Accepted xs → Close E fs old → PairStep u u′ xs old new → Close (E + perStep) (pairStepped u u′ xs fs) new
-unfolding pairStepped pairDownward
-pair-step {E} u u′ {xs} {fs} {old} {new} hu hu′ oks closes solves =
+-- an accepted step: 6 more
+pub step-close : {E : ℕ} (u u′ : ℕ) {xs : List Pair} {fs : List Figures} {old new : List ExactFigures} → u ≤ highest → u′ ≤ highest →
+    All Accepted xs → Close E fs old → ExactStep u u′ xs old new → Close (E + perStep) (stepped u u′ xs fs) new
+unfolding stepped downward
+step-close {E} u u′ {xs} {fs} {old} {new} hu hu′ oks closes solves =
     let c = common (old ++ new) in
     let parts = split old (c .spread .over) in
     go (c .D) (c .above) (parts .0 .over) (parts .1 .over)
   where
     go : (D : ℕ) → 0 < D → {os ns : List Differences} → AllOver D old os → AllOver D new ns →
-        Close (E + perStep) (finish pairFigures xs fs (up (down (top u′) (rows pairRow u xs fs)))) new
+        Close (E + perStep) (finish xs fs (up (down (top u′) (rows u xs fs)))) new
     go D h os ns =
         let exact = exact-rows solves (over-whole D u′) (over-whole D u) os ns in
         let near = sweep-solves u′ (omega arith) (rows-fit u hu oks (mosts closes)) in

@@ -4,10 +4,9 @@ use Prim.Native.Nat.{ℕ, _<_}
 use native.Mathlib.Omega.{arith}
 use Rattle.fractions.specs.Fractions.{Fraction, Same}
 use Rattle.fractions.proofs.Over.{same-up-to}
-use Rattle.model.specs.TwoSets.{Pair}
+use Rattle.model.specs.Equations.{Pair}
 use Rattle.model.specs.ExactRiver.{ExactFigures, Along}
 use Rattle.model.specs.Claim.{SameFigures}
-use Rattle.exact.specs.PairEquations.{PairSolves}
 use Rattle.exact.proofs.Sides.{Differences}
 use Rattle.exact.proofs.CommonDenominator.{AllOver, all-of-same, same-of-all, common, ends, split}
 use Rattle.exact.proofs.Rivers.{all-steady, apart, exact-rows}
@@ -15,7 +14,7 @@ use Rattle.exact.proofs.Rivers.{all-steady, apart, exact-rows}
 -- from the same figures, and under the same figures
 pub unique : {above′ above above′* above* : Fraction} {xs : List Pair} {old new old* new* : List ExactFigures} →
     Same above′ above′* → Same above above* → SameFigures old old* →
-    Along PairSolves above′ above xs old new → Along PairSolves above′* above* xs old* new* → SameFigures new new*
+    Along above′ above xs old new → Along above′* above* xs old* new* → SameFigures new new*
 unique {above′} {above} {above′*} {above*} {xs} {old} {new} {old*} {new*} same′ same olds solves solves* =
     let c = common (ends above′ above ∷ ends above′* above* ∷ (old ++ new) ++ (old* ++ new*)) in
     go (c .D) (c .above) (c .spread .over)

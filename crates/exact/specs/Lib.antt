@@ -1,2 +1,1 @@
-pub mod PairEquations
 pub mod Close

@@ -88,7 +88,3 @@ module _ {n : ℕ} {rs : List Reach} {course : Course} (river : Along n rs cours
         sum = rw (k .own, k .sum);
         small = omega (arith, k .small, abs-sum (at .gain) (shareOf (own .qin) (own .qout) (course .dx)), abs-share (own .qin) (own .qout) (course .dx) (inside .qin) (inside .qout) (river .steps .length));
       }
-
-  -- the net gain is at most 10^12 for each segment before, either way
-  pub gain-le : (i : ℕ) → i < n → natAbs (gain course i) ≤ i * 10 ^ 12
-  gain-le i h = rw (← known i h .sum) (known i h .small)

@@ -1,8 +1,6 @@
-pub mod Ranges
 pub mod Signed
 pub mod Sums
 pub mod Sites
 pub mod River
 pub mod Descending
 pub mod Segments
-pub mod Course

@@ -20,7 +20,7 @@ use Rattle.halfstep.specs.declared.descent.Cursor.{Cursor}
 use Rattle.halfstep.specs.declared.Site.{Site}
 use Rattle.halfstep.proofs.River.{river-length, before-ge}
 use Rattle.halfstep.proofs.Sites.{SiteAt, ad-le}
-use Rattle.halfstep.proofs.Descending.{Along, Known, known, stands-top}
+use Rattle.halfstep.proofs.Descending.{Along, Known, known}
 
 -- reach number k is on the sheet, and its AD is x
 pub record Has (rs : List Sheet.Reach) (k x : ℕ) : Type 0 where
@@ -32,26 +32,22 @@ pub record Sited (course : Course) (i : ℕ) (site : Site) : Type 0 where
   pub place : SiteAt course i site
   pub fields : Fields site
 
--- the cursor after i segments
-pub record Descended (rs : List Sheet.Reach) (course : Course) (i : ℕ) (at : Cursor) : Type 0 where
-  pub same : at ≡ cursorAt rs (course .dx) i
+-- the cursor after i segments, which rests on no flow
+pub record Descended (rs : List Sheet.Reach) (dx i : ℕ) (at : Cursor) : Type 0 where
+  pub same : at ≡ cursorAt rs dx i
 
 -- at the top
-pub descended-top : {rs : List Sheet.Reach} {course : Course} {first : Reach} → reachSays first ≡ reachNo rs 0 → Descended rs course 0 (atTop (reachSays first))
+pub descended-top : {rs : List Sheet.Reach} {dx : ℕ} {first : Reach} → reachSays first ≡ reachNo rs 0 → Descended rs dx 0 (atTop (reachSays first))
 unfolding cursorAt
 descended-top is = record { same = ap atTop is }
 
 module _ {n : ℕ} {rs : List Sheet.Reach} {course : Course} (river : Along n rs course) where
-  -- the first reach is on the sheet
-  pub first-at : 0 < n → 0 < length rs
-  first-at h = stands-top {rs = rs} (river .ranges) (omega (arith, river .count)) .known
-
   -- the last segment is the last of all reaches together
   last-at : (i : ℕ) → eqb (i + 1) n ≡ isLast course i
   unfolding isLast
   last-at i = rw (river .river, river-length, river .count, add-one)
 
-  module _ {i : ℕ} (h : i < n) {at : Cursor} (w : Descended rs course i at) where
+  module _ {i : ℕ} (h : i < n) {at : Cursor} (w : Descended rs (course .dx) i at) where
     -- what the cursor has
     pub known-at : Known rs course i at
     known-at = rw (w .same) (known river i h)
@@ -72,7 +68,7 @@ module _ {n : ℕ} {rs : List Sheet.Reach} {course : Course} (river : Along n rs
           })
 
       -- one segment more
-      pub descended-next : Descended rs course (i + 1) (further (course .dx) (reachSays own) at)
+      pub descended-next : Descended rs (course .dx) (i + 1) (further (course .dx) (reachSays own) at)
       unfolding cursorAt
       descended-next = record { same = rw (is, w .same, add-one) }
 

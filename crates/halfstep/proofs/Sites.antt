@@ -1,6 +1,6 @@
 -- A segment by itself and the same segment in its river.
 use mathlib.Core.Bool.{false, _||_}
-use mathlib.Core.Path.{_≡_, refl, _∙_}
+use mathlib.Core.Path.{_≡_, refl}
 use Prim.Native.Nat.{ℕ, _+_, _*_, _≤_, _^_}
 use native.Mathlib.Nat.{mul-le-mul}
 use native.Mathlib.Omega.{arith}
@@ -9,13 +9,13 @@ use lib.IntN.{ℤ, pos, negsuc}
 use lib.Signed.{ltZ}
 use Rattle.model.specs.Ranges.{flows}
 use Rattle.model.specs.Flow.{Course, reachAt, flow, natural, discharge}
-use Rattle.model.specs.HalfStep.{ad, isLast, adAbove, adBelow, eOf, gOf, Numbers, numbers}
+use Rattle.model.specs.HalfStep.{ad, isLast, adAbove, adBelow, eOf, gOf, numbers}
 use Rattle.model.specs.Load.{flowFault, faceFault}
 use Rattle.model.specs.Sheet.{Reach}
 use Rattle.halfstep.specs.Ranges.{InRange}
 use Rattle.terms.specs.Says.{reachSays}
 use Rattle.halfstep.specs.Descent.{adOf}
-use Rattle.halfstep.specs.Site.{flowFaultOf, faceFaultOf, numbersOf, Fields, Passes, StandFor}
+use Rattle.halfstep.specs.Site.{flowFaultOf, faceFaultOf, numbersOf}
 use Rattle.halfstep.specs.declared.Site.{Site}
 use Rattle.lists.proofs.Shorter.{neither}
 
@@ -59,14 +59,7 @@ module _ {course : Course} {i : ℕ} {site : Site} (at : SiteAt course i site) w
   unfolding faceFaultOf faceFault ad discharge
   face-fault-at = rw (at .own, at .below, at .stream, at .step)
 
-  -- the numbers, and numbers that stand for them
+  -- the numbers
   pub numbers-at : numbersOf site ≡ numbers course i
   unfolding numbersOf numbers eOf gOf ad discharge
   numbers-at = rw (at .own, at .above, at .below, at .stream, at .end, at .time, at .step)
-
-  pub stand-for-at : {given : Numbers} → StandFor given (numbersOf site) → StandFor given (numbers course i)
-  stand-for-at s = rw (← numbers-at) s
-
-  -- tests 10 and 11 pass at this segment
-  pub passes-at : Fields site → flowFault course i ≡ false → faceFault course i ≡ false → Passes site
-  passes-at fields f g = record { fields = fields; flow = flow-fault-at ∙ f; face = face-fault-at ∙ g }

@@ -19,7 +19,6 @@ use Rattle.halfstep.specs.Ranges.{InRange, Steps}
 use Rattle.halfstep.specs.Descent.{adOf}
 use Rattle.halfstep.specs.declared.descent.Cursor.{Cursor}
 use Rattle.halfstep.specs.declared.Site.{Site}
-use Rattle.halfstep.specs.declared.Numbers.{Numbers}
 
 -- the flow of a segment, from the flow at the top and the sum over the segments before it
 unfoldable pub flowOf : ℕ → ℤ → ℤ
@@ -69,21 +68,6 @@ numbersOf site =
 -- a number as the code gives it: one part above one whole stands for all that is more
 abbrev pub cut : ℕ → ℕ
 cut x = min x (S + 1)
-
--- the ten numbers of document 01 that the code's record says
-abbrev pub numbersSay : Numbers → HalfStep.Numbers
-numbersSay n = record {
-  e = n .e;
-  g = n .g;
-  l = n .l;
-  a = n .a;
-  b = n .b;
-  k = n .k;
-  ks = n .ks;
-  h = n .h;
-  m = n .m;
-  s = n .s;
-}
 
 -- the segment's fields are in their ranges
 pub record Fields (site : Site) : Type 0 where

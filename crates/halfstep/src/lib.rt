@@ -1,18 +1,19 @@
 // The flow of a segment and its half-step numbers: document 01, "Flow and half-step numbers", with tests 10 to 12, on values.
 ghost use mathlib.Core.Bool.{false};
 ghost use mathlib.Core.Path.{_≡_};
-ghost use Prim.Native.Nat.{_+_, _*_, _^_, _<_, _≤_};
+ghost use Prim.Native.Nat.{_*_, _^_, _<_, _≤_};
 ghost use lib.IntN.{pos, natAbs};
 ghost use lib.Signed.{ltZ};
 ghost use Rattle.rounding.specs.Nearest.{S, parts};
 ghost use Rattle.model.specs.Ranges.{flows};
 ghost use Rattle.model.specs.Flow.{natural};
 ghost use Rattle.model.specs.HalfStep.{rateOf};
-ghost use Rattle.model.specs.Load.{sumFault};
+ghost use Rattle.terms.specs.Says.{numbersSay};
 ghost use Rattle.halfstep.specs.Descent.{mostGain};
-ghost use Rattle.halfstep.specs.Site.{flowOf, siteOf, flowFaultOf, faceFaultOf, numbersOf, cut, numbersSay, Fields, Passes, StandFor};
+ghost use Rattle.halfstep.specs.Site.{flowOf, siteOf, flowFaultOf, faceFaultOf, numbersOf, cut, Fields, Passes, StandFor};
 use descent::Cursor;
 use rounding::signed;
+use terms::Numbers;
 use terms::Reach;
 
 pub mod descent;
@@ -27,20 +28,6 @@ pub struct Site {
     pub last: bool,
     pub dt: u32,
     pub dx: u32,
-}
-
-// The ten half-step numbers of a segment, in parts of one whole.
-pub struct Numbers {
-    pub e: u32,
-    pub g: u32,
-    pub l: u32,
-    pub a: u32,
-    pub b: u32,
-    pub k: u32,
-    pub ks: u32,
-    pub h: u32,
-    pub m: u32,
-    pub s: u32,
 }
 
 // The highest flow, in mL/s.
@@ -219,34 +206,5 @@ impl Site {
             m: rate(dt, own.lamhat2),
             s: sorption(dt, own.lamhat, own.rho, own.kd, h),
         }
-    }
-}
-
-// T of any six numbers.
-fn sum_t(e: u32, g: u32, l: u32, a: u32, k: u32, s: u32) -> u64
-    ensures { λ r. ⌜ r ≡ e + g + l + a + k + s ⌝ }
-{
-    (e as u64) + (g as u64) + (l as u64) + (a as u64) + (k as u64) + (s as u64)
-}
-
-// V of any three.
-fn sum_v(b: u32, ks: u32, m: u32) -> u64
-    ensures { λ r. ⌜ r ≡ b + ks + m ⌝ }
-{
-    (b as u64) + (ks as u64) + (m as u64)
-}
-
-impl Numbers {
-    // 12. "T, V or h exceeds one whole", of any ten numbers.
-    pub fn sum_fault(self) -> bool
-        ensures { λ r. ⌜ r ≡ sumFault (numbersSay self) ⌝ }
-    {
-        if rounding::WHOLE < sum_t(self.e, self.g, self.l, self.a, self.k, self.s) {
-            return true;
-        }
-        if rounding::WHOLE < sum_v(self.b, self.ks, self.m) {
-            return true;
-        }
-        rounding::WHOLE < self.h as u64
     }
 }

@@ -1,4 +1,4 @@
-// A loading that is lent the list of reach records with the other lists: document 01's call.
+// A loading that is lent the list of reach records with the other lists: the documents' call.
 ghost use mathlib.Core.Path.{_≡_};
 ghost use mathlib.Core.List.{map};
 ghost use Prim.Native.Nat.{ℕ, _≤_};
@@ -17,10 +17,11 @@ use terms::Reach;
 // The most reaches that a sheet can have.
 const REACHES: usize = sheet::ranges::REACHES.counts.high as usize;
 
-// "The reach table is handed to the loader as a list of reach records, lent with the other lists": tests 1 to 13 on any bytes and any
-// lists; where all pass, the first entries of each list are written, otherwise nothing.
+// "The reach table is handed to the loader as a list of reach records, lent with the other lists": its tests on any bytes, any number of a
+// flow row and any lists; where all pass, the first entries of each list are written, with the set of that row's flow, otherwise nothing.
 pub fn load(
     sheet: &[u8],
+    row: u32,
     reaches: &mut [Reach],
     e: &mut [u32],
     g: &mut [u32],
@@ -37,14 +38,15 @@ pub fn load(
     kd: &mut [u32],
     start: &mut [u32],
 ) -> Load
-    ensures answer { λ r. ⌜ loadSays r ≡ loadAnswer (entry sheet) (length (entry reaches)) (columns entry e g l a b k ks h m s cl cb kd start) ⌝ }
-    ensures lists { λ r. ⌜ columns exit e g l a b k ks h m s cl cb kd start ≡ loadColumns (entry sheet) (length (entry reaches))
+    ensures answer { λ r. ⌜ loadSays r ≡ loadAnswer (entry sheet) row (length (entry reaches)) (columns entry e g l a b k ks h m s cl cb kd start) ⌝ }
+    ensures lists { λ r. ⌜ columns exit e g l a b k ks h m s cl cb kd start ≡ loadColumns (entry sheet) row (length (entry reaches))
         (columns entry e g l a b k ks h m s cl cb kd start) ⌝ }
-    ensures records { λ r. ⌜ map reachSays (exit reaches) ≡ loadRecords (entry sheet) (map reachSays (entry reaches))
+    ensures records { λ r. ⌜ map reachSays (exit reaches) ≡ loadRecords (entry sheet) row (map reachSays (entry reaches))
         (columns entry e g l a b k ks h m s cl cb kd start) ⌝ }
 {
     let answer = Loaded::assemble(
         sheet,
+        row,
         reaches.len(),
         e,
         g,
@@ -68,6 +70,7 @@ pub fn load(
 // The same with a list of reach records of its own, which is long enough for every sheet: for a caller that has no use for them.
 pub fn load_lists(
     sheet: &[u8],
+    row: u32,
     e: &mut [u32],
     g: &mut [u32],
     l: &mut [u32],
@@ -83,10 +86,10 @@ pub fn load_lists(
     kd: &mut [u32],
     start: &mut [u32],
 ) -> Load
-    ensures answer { λ r. ⌜ loadSays r ≡ loadAnswer (entry sheet) 64 (columns entry e g l a b k ks h m s cl cb kd start) ⌝ }
-    ensures lists { λ r. ⌜ columns exit e g l a b k ks h m s cl cb kd start ≡ loadColumns (entry sheet) 64
+    ensures answer { λ r. ⌜ loadSays r ≡ loadAnswer (entry sheet) row 64 (columns entry e g l a b k ks h m s cl cb kd start) ⌝ }
+    ensures lists { λ r. ⌜ columns exit e g l a b k ks h m s cl cb kd start ≡ loadColumns (entry sheet) row 64
         (columns entry e g l a b k ks h m s cl cb kd start) ⌝ }
-    ensures room { λ r. ⌜ ((records : ℕ) → 64 ≤ records → loadSays r ≡ loadAnswer (entry sheet) records
+    ensures room { λ r. ⌜ ((records : ℕ) → 64 ≤ records → loadSays r ≡ loadAnswer (entry sheet) row records
         (columns entry e g l a b k ks h m s cl cb kd start)) ⌝ }
 {
     let mut reaches = [Reach {
@@ -109,6 +112,7 @@ pub fn load_lists(
     }; REACHES];
     load(
         sheet,
+        row,
         &mut reaches,
         e,
         g,

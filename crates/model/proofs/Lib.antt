@@ -1,5 +1,6 @@
 pub mod Ranges
 pub mod Refusals
 pub mod Clamp
+pub mod FlowRows
 pub mod Bench
-pub mod TwoSets
+pub mod FlowBench

@@ -2,13 +2,16 @@
 use mathlib.Core.Path.{_≡_, refl, sym, ap, _∙_}
 use mathlib.Core.Bool.{Bool, true, false, cond}
 use mathlib.Core.List.{List, [], _∷_, _++_}
-use Prim.Native.Nat.{ℕ, suc, _<_, _≤_}
+use Prim.Native.Nat.{ℕ, zero, suc, _<_, _≤_}
 use native.Mathlib.Omega.{arith}
 use borrow.Author.Tests.{ltb-false, lt-ltb, le-ltb}
 use lib.Dec.{T, ltb}
-use Rattle.lists.specs.Lists.{lowest}
-use Rattle.lists.proofs.Lowest.{none-at-fault, lowest-end}
-use Rattle.model.specs.Refusals.{Place, nothing, Finding, passes, fails, Outcome, accepted, refused, isAccepted, test, testEach, first, answer, outcomeOf}
+use lib.ListN.{getD}
+use Rattle.lists.specs.Lists.{tab, lowest}
+use Rattle.lists.proofs.Lowest.{none-at-fault}
+use Rattle.lists.proofs.Tab.{getD-tab}
+use Rattle.model.specs.Refusals.{Place, Finding, passes, fails, accepted, refused, isAccepted, test, testEach, first, answer, outcomeOf}
+use Rattle.model.specs.Load.{testFlows}
 
 -- a test that fails does not pass
 pub fails-passes : {A : Type 0} {number : ℕ} {place : Place} → fails number place ≡ passes → A
@@ -40,6 +43,18 @@ pub first-both : (ts us : List Finding) → first (ts ++ us) ≡ passes → (fir
 first-both [] us e = (refl, e)
 first-both (passes ∷ ts) us e = first-both ts us e
 first-both (fails number place ∷ ts) us e = fails-passes e
+
+-- where a row passes, each of its tests does
+pub first-at : (ts : List Finding) (i : ℕ) → first ts ≡ passes → getD ts i passes ≡ passes
+first-at [] i e = refl
+first-at (passes ∷ ts) zero e = refl
+first-at (passes ∷ ts) (suc i) e = first-at ts i e
+first-at (fails number place ∷ ts) i e = fails-passes e
+
+-- a test that passes for every flow in turn passes for each
+pub flows-clear : (rows : ℕ) (finding : ℕ → Finding) → testFlows rows finding ≡ passes → (r : ℕ) → r ≤ rows → finding r ≡ passes
+unfolding testFlows
+flows-clear rows finding e r h = sym (getD-tab finding (suc rows) r passes (omega arith)) ∙ first-at (tab 0 (suc rows) finding) r e
 
 -- a test that passes finds no fault
 pub test-clear : (number : ℕ) (fault : Bool) → test number fault ≡ passes → fault ≡ false

@@ -5,7 +5,7 @@ use mathlib.Core.List.{List, [], _∷_, _++_}
 use Prim.Native.Nat.{ℕ, zero, suc, _+_, _-_, _/_, _%_, _^_}
 use lib.ListN.{getD, replicate}
 use Rattle.rounding.specs.Nearest.{S, parts}
-use Rattle.model.specs.Sheet.{mark, reachOf}
+use Rattle.model.specs.Sheet.{otr1, reachOf}
 use Rattle.model.specs.Flow.{Course, courseOf, discharge}
 use Rattle.model.specs.HalfStep.{eOf}
 use Rattle.model.specs.State.{Columns, State}
@@ -26,7 +26,7 @@ allBytes (n ∷ ns) = bytes n ++ allBytes ns
 -- Kd are 0 unless named." Q is the flow at the top, U the row's figure.
 unfoldable pub brook : (dt Q segments U : ℕ) → List ℕ
 brook dt Q segments U =
-    mark ++ allBytes
+    otr1 ++ allBytes
     (dt ∷ 10 ∷ 1 ∷ 1 ∷ Q ∷
     1 ∷ segments ∷ 50 ∷ 100 ∷ 100 ∷ replicate 12 0 ++
     1 ∷ 0 ∷ U ∷
@@ -36,7 +36,13 @@ brook dt Q segments U =
 unfoldable pub zeros : ℕ → Columns
 zeros n =
     let x : List ℕ = replicate n 0 in
-    record { e = x; g = x; l = x; a = x; b = x; k = x; ks = x; h = x; m = x; s = x; cl = x; cb = x; kd = x; start = x }
+    record {
+      numbers = record { e = x; g = x; l = x; a = x; b = x; k = x; ks = x; h = x; m = x; s = x };
+      cl = x;
+      cb = x;
+      kd = x;
+      start = x;
+    }
 
 -- a state of n zeros to lend
 unfoldable pub noState : ℕ → State
@@ -53,7 +59,7 @@ refusal (refused number place) = number ∷ []
 
 -- a brook of one segment: its answer
 unfoldable pub brookRefusal : (dt Q : ℕ) → List ℕ
-brookRefusal dt Q = refusal (loadAnswer (brook dt Q 1 0) 1 (zeros 1))
+brookRefusal dt Q = refusal (loadAnswer (brook dt Q 1 0) 0 1 (zeros 1))
 
 -- T4 and T5: three segments with qin 0 and qout 4,545, dx 1,000, below a flow of 1,000
 unfoldable pub slope : Course
@@ -61,13 +67,13 @@ slope = record { dt = 1; dx = 1000; top = 1000; river = replicate 3 (reachOf (λ
 
 -- T10 and T11: "brook, dt 1, Q 0, two segments, start 0, U 3,000 throughout", loaded, started and stepped once
 unfoldable pub brook2 : Columns
-brook2 = loadColumns (brook 1 0 2 3000) 1 (zeros 2)
+brook2 = loadColumns (brook 1 0 2 3000) 0 1 (zeros 2)
 
 -- its start, with U 3,000
 unfoldable pub started2 : State
 started2 = startState 2 brook2 (noState 2) 3000
 
--- a line of the table: its number, what the definitions give and what document 01 prints
+-- a line of a table: its number, what the definitions give and what the figures are to be, here those that document 01 prints
 pub record Line : Type 0 where
   pub number : ℕ
   pub given : List ℕ
@@ -84,20 +90,20 @@ bench =
     record { number = 4; given = (1000 - discharge slope 1) ∷ []; printed = 46 ∷ [] } ∷
     record { number = 5; given = (1000 - discharge slope 2) ∷ []; printed = 91 ∷ [] } ∷
     -- "e is one whole, accepted"; "refused 12"; "refused 11"; "refused 11"
-    record { number = 6; given = eOf (courseOf (brook 2 1000 1 0)) 0 ∷ brookRefusal 2 1000; printed = S ∷ [] } ∷
+    record { number = 6; given = eOf (courseOf (brook 2 1000 1 0) 0) 0 ∷ brookRefusal 2 1000; printed = S ∷ [] } ∷
     record { number = 7; given = brookRefusal 3 1000; printed = 12 ∷ [] } ∷
     record { number = 8; given = brookRefusal 2 1001; printed = 11 ∷ [] } ∷
     record { number = 9; given = brookRefusal 3 1001; printed = 11 ∷ [] } ∷
     -- "after one step C is 1,035 and 207"; "there p of segment 1 is 178,956,971"
-    record { number = 10; given = stepState 2 brook2 started2 (noWork 2) 3000 1 .channel; printed = 1035 ∷ 207 ∷ [] } ∷
-    record { number = 11; given = getD (stepWorking 2 brook2 started2 (noWork 2) 3000 1 .p) 0 0 ∷ []; printed = 178956971 ∷ [] } ∷
+    record { number = 10; given = stepState 2 (brook2 .numbers) brook2 started2 (noWork 2) 3000 1 .channel; printed = 1035 ∷ 207 ∷ [] } ∷
+    record { number = 11; given = getD (stepWorking 2 (brook2 .numbers) brook2 started2 (noWork 2) 3000 1 .p) 0 0 ∷ []; printed = 178956971 ∷ [] } ∷
     []
 
 -- The listing's river: "Brook, one segment, dt 2, M 2, interval 1, Q 0, AS 100, LAMHAT and LAMHAT2 each 500,000,000, Kd 2, CB 600, one
 -- row (0, 3,000), gauge 1"
 unfoldable pub listed : List ℕ
 listed =
-    mark ++ allBytes
+    otr1 ++ allBytes
     (2 ∷ 10 ∷ 2 ∷ 1 ∷ 0 ∷
     1 ∷ 1 ∷ 50 ∷ 100 ∷ 100 ∷ replicate 6 0 ++ 500000000 ∷ 500000000 ∷ 0 ∷ 2 ∷ 600 ∷ 0 ∷
     1 ∷ 0 ∷ 3000 ∷
@@ -105,12 +111,12 @@ listed =
 
 -- its loading
 unfoldable pub listedColumns : Columns
-listedColumns = loadColumns listed 1 (zeros 1)
+listedColumns = loadColumns listed 0 1 (zeros 1)
 
 -- loaded, started, and stepped with the row's figure
 unfoldable pub listedState : (steps : ℕ) → State
 listedState zero = startState 1 listedColumns (noState 1) 3000
-listedState (suc n) = stepState 1 listedColumns (listedState n) (noWork 1) 3000 2
+listedState (suc n) = stepState 1 (listedColumns .numbers) listedColumns (listedState n) (noWork 1) 3000 2
 
 -- what a line prints of a report
 abbrev pub figures : Outcome Reported → List ℕ

@@ -5,10 +5,10 @@ use Prim.Native.Nat.{ℕ, suc, _+_, _-_, _*_}
 use lib.Dec.{eqb, ltb, leb}
 use Rattle.lists.specs.Lists.{over, anyShorter}
 use Rattle.model.specs.Ranges.{_to_, outside, concentration, mostKd, mostSteps, mostSegments}
-use Rattle.model.specs.HalfStep.{Segment}
+use Rattle.model.specs.HalfStep.{Numbers, Segment}
 use Rattle.model.specs.Equations.{Figures}
 use Rattle.model.specs.Sweep.{downward, stepped}
-use Rattle.model.specs.State.{Columns, columnLists, segmentAt, segmentsOf, State, stateLists, figuresAt, figuresOf, writeFigures}
+use Rattle.model.specs.State.{NumberSet, setLists, numbersAt, Columns, columnLists, segmentAt, segmentsOf, pairsOf, State, stateLists, figuresAt, figuresOf, writeFigures}
 use Rattle.model.specs.Refusals.{segment, Outcome, accepted, refused, Finding, test, testEach, outcomeOf}
 use Rattle.model.specs.Load.{sumFault}
 
@@ -16,11 +16,14 @@ use Rattle.model.specs.Load.{sumFault}
 unfoldable pub riverFault : (n : ℕ) → List (List ℕ) → Bool
 riverFault n lists = outside (1 to mostSegments) n || anyShorter n lists
 
--- 14. of a segment's lists: "A half-step sum (T, V or h) exceeds one whole, the last g is not 0, Kd exceeds 1,000, a concentration
--- exceeds its limit"
+-- 14. of a segment's numbers in a set: "A half-step sum (T, V or h) exceeds one whole, the last g is not 0"
+unfoldable pub numbersFault : (isLast : Bool) → Numbers → Bool
+numbersFault isLast x = sumFault x || (isLast && not (eqb (x .g) 0))
+
+-- 14. of a segment's lists: these, "Kd exceeds 1,000, a concentration exceeds its limit"
 unfoldable pub segmentFault : (isLast : Bool) → Segment → Bool
 segmentFault isLast x =
-    sumFault (x .numbers) || (isLast && not (eqb (x .numbers .g) 0)) || ltb mostKd (x .kd)
+    numbersFault isLast (x .numbers) || ltb mostKd (x .kd)
     || outside concentration (x .cl) || outside concentration (x .cb) || outside concentration (x .start)
 
 -- 14. of a segment's state
@@ -31,9 +34,13 @@ figureFault f = outside concentration (f .c) || outside concentration (f .z) || 
 unfoldable pub startFault : (n : ℕ) → Columns → ℕ → Bool
 startFault n columns i = segmentFault (eqb (suc i) n) (segmentAt columns i)
 
--- segment i of n as lent to a step or a report
+-- segment i of n as lent to a report, and to a step with its new set
 unfoldable pub stateFault : (n : ℕ) → Columns → State → ℕ → Bool
 stateFault n columns state i = startFault n columns i || figureFault (figuresAt state i)
+
+-- segment i of n in the old set of a step
+unfoldable pub oldFault : (n : ℕ) → NumberSet → ℕ → Bool
+oldFault n old i = numbersFault (eqb (suc i) n) (numbersAt old i)
 
 -- 14. "nothing for U, U', M or the count, which are looked at after all segments": of the state
 unfoldable pub heldFault : State → Bool
@@ -71,47 +78,47 @@ stateAfterStart (refused number place) n columns state = state
 unfoldable pub startState : (n : ℕ) → Columns → State → (u : ℕ) → State
 startState n columns state u = stateAfterStart (startAnswer n columns state u) n columns state
 
--- ---- a step: "handed .. U' and M"
+-- ---- a step: "handed .. U' and M"; `old` is the set of its old side, `new` has that of its new side
 
 -- the two working lists, p and y
 pub record Working : Type 0 where
   pub p : List ℕ
   pub y : List ℕ
 
--- "a step 13 to 15"
-unfoldable pub stepTests : (n : ℕ) → Columns → State → Working → (u′ M : ℕ) → List Finding
-stepTests n columns state working u′ M =
-    test 13 (riverFault n (columnLists columns ++ stateLists state ++ working .p ∷ working .y ∷ [])) ∷
-    testEach 14 segment n (stateFault n columns state) ∷
+-- "a step 13 to 15"; "A step is lent both sets, and 14 looks at both"
+unfoldable pub stepTests : (n : ℕ) → (old : NumberSet) → (new : Columns) → State → Working → (u′ M : ℕ) → List Finding
+stepTests n old new state working u′ M =
+    test 13 (riverFault n (setLists old ++ columnLists new ++ stateLists state ++ working .p ∷ working .y ∷ [])) ∷
+    testEach 14 segment n (λ i. oldFault n old i || stateFault n new state i) ∷
     test 14 (heldFault state || outside concentration u′ || ltb mostSteps M) ∷
     test 15 (leb M (state .steps)) ∷
     []
 
 -- "After a step the state's U is that step's U'."
-unfoldable pub stepAnswer : (n : ℕ) → Columns → State → Working → (u′ M : ℕ) → Outcome River
-stepAnswer n columns state working u′ M =
-    outcomeOf (stepTests n columns state working u′ M) (record { upstream = u′; steps = suc (state .steps) })
+unfoldable pub stepAnswer : (n : ℕ) → (old : NumberSet) → (new : Columns) → State → Working → (u′ M : ℕ) → Outcome River
+stepAnswer n old new state working u′ M =
+    outcomeOf (stepTests n old new state working u′ M) (record { upstream = u′; steps = suc (state .steps) })
 
 -- what a step with this answer leaves
-abbrev pub stateAfterStep : Outcome River → (n : ℕ) → Columns → State → State
-stateAfterStep (accepted v) n columns state =
-    writeFigures (stepped (state .upstream) (v .upstream) (segmentsOf n columns) (figuresOf n state)) (v .upstream) (v .steps) state
-stateAfterStep (refused number place) n columns state = state
+abbrev pub stateAfterStep : Outcome River → (n : ℕ) → (old : NumberSet) → (new : Columns) → State → State
+stateAfterStep (accepted v) n old new state =
+    writeFigures (stepped (state .upstream) (v .upstream) (pairsOf n old new) (figuresOf n state)) (v .upstream) (v .steps) state
+stateAfterStep (refused number place) n old new state = state
 
 -- the state afterwards
-unfoldable pub stepState : (n : ℕ) → Columns → State → Working → (u′ M : ℕ) → State
-stepState n columns state working u′ M = stateAfterStep (stepAnswer n columns state working u′ M) n columns state
+unfoldable pub stepState : (n : ℕ) → (old : NumberSet) → (new : Columns) → State → Working → (u′ M : ℕ) → State
+stepState n old new state working u′ M = stateAfterStep (stepAnswer n old new state working u′ M) n old new state
 
 -- the working lists afterwards: p and y of the downward pass over their first entries
-abbrev pub workingAfterStep : Outcome River → (n : ℕ) → Columns → State → Working → Working
-workingAfterStep (accepted v) n columns state working =
-    let passed = downward (state .upstream) (v .upstream) (segmentsOf n columns) (figuresOf n state) in
+abbrev pub workingAfterStep : Outcome River → (n : ℕ) → (old : NumberSet) → (new : Columns) → State → Working → Working
+workingAfterStep (accepted v) n old new state working =
+    let passed = downward (state .upstream) (v .upstream) (pairsOf n old new) (figuresOf n state) in
     record { p = over (map (λ x. x .p) passed) (working .p); y = over (map (λ x. x .y) passed) (working .y) }
-workingAfterStep (refused number place) n columns state working = working
+workingAfterStep (refused number place) n old new state working = working
 
 -- and with its own answer
-unfoldable pub stepWorking : (n : ℕ) → Columns → State → Working → (u′ M : ℕ) → Working
-stepWorking n columns state working u′ M = workingAfterStep (stepAnswer n columns state working u′ M) n columns state working
+unfoldable pub stepWorking : (n : ℕ) → (old : NumberSet) → (new : Columns) → State → Working → (u′ M : ℕ) → Working
+stepWorking n old new state working u′ M = workingAfterStep (stepAnswer n old new state working u′ M) n old new state working
 
 -- ---- a report: "a segment, for which it gives C, Z and Kd × W"; segments count from 1
 

@@ -5,7 +5,7 @@ use Prim.Native.Nat.{ℕ, _-_, _*_, _≤_}
 use lib.Dec.{T}
 use lib.ListN.{length}
 use Rattle.fractions.specs.Fractions.{Same, Within, _·_}
-use Rattle.model.specs.Sheet.{Reach, segmentCount}
+use Rattle.model.specs.Sheet.{Reach, segmentCount, flowRowCount}
 use Rattle.model.specs.Flow.{courseOf}
 use Rattle.model.specs.HalfStep.{Segment, loadedSegment}
 use Rattle.model.specs.Equations.{Figures}
@@ -14,7 +14,7 @@ use Rattle.model.specs.State.{Columns, loadedSegments, State, figuresAt,
 use Rattle.model.specs.Refusals.{accepted}
 use Rattle.model.specs.Load.{Loaded, loadAnswer, loadColumns}
 use Rattle.model.specs.Calls.{Reported, reportAnswer}
-use Rattle.model.specs.Runs.{Lent, Call, start, accepts, run, AsLoaded, Fed, events, Exact, noRiver, ExactRun}
+use Rattle.model.specs.Runs.{Lent, Call, start, accepts, run, LoadedFor, SetFor, AsLoaded, Fed, events, Exact, noRiver, ExactRun}
 
 -- two lists "hold the same figures", segment by segment
 pub data SameFigures : List ExactFigures → List ExactFigures → Type 0 where
@@ -42,36 +42,44 @@ pub record FiguresOf (sheet : List ℕ) (state : State) (number : ℕ) (v : Repo
   pub last : number ≤ segmentCount sheet
   pub channel : v .channel ≡ figuresAt state (number - 1) .c
   pub storage : v .storage ≡ figuresAt state (number - 1) .z
-  pub sediment : v .sediment ≡ loadedSegment (courseOf sheet) (number - 1) .kd * figuresAt state (number - 1) .w
+  pub sediment : v .sediment ≡ loadedSegment (courseOf sheet 0) (number - 1) .kd * figuresAt state (number - 1) .w
 
 -- after a list of calls from a state, on a river of this sheet
 pub record Holds (sheet : List ℕ) (before : State) (calls : List Call) : Type 0 where
   -- "Such fractions always exist"
-  pub exists : (q : Exact) × ExactRun (loadedSegments sheet) noRiver (events before calls) q
+  pub exists : (q : Exact) × ExactRun sheet noRiver (events before calls) q
   -- "any two lists of them, for all segments at steps 0 to n, hold the same figures"
-  pub unique : (q r : Exact) → ExactRun (loadedSegments sheet) noRiver (events before calls) q →
-      ExactRun (loadedSegments sheet) noRiver (events before calls) r →
+  pub unique : (q r : Exact) → ExactRun sheet noRiver (events before calls) q →
+      ExactRun sheet noRiver (events before calls) r →
       (SameFigures (q .now) (r .now)) × (SamePast (q .past) (r .past))
   -- "n counts the steps accepted since the latest accepted start, and the state's count equals it"
-  pub counted : (q : Exact) → ExactRun (loadedSegments sheet) noRiver (events before calls) q → run before calls .steps ≡ q .n
+  pub counted : (q : Exact) → ExactRun sheet noRiver (events before calls) q → run before calls .steps ≡ q .n
   -- "After the list, in every segment, .. at most 6 × n .. at most 6 × n × Kd"
-  pub near : (q : Exact) → ExactRun (loadedSegments sheet) noRiver (events before calls) q →
-      Near (6 * q .n) (loadedSegments sheet) (figuresOf (segmentCount sheet) (run before calls)) (q .now)
+  pub near : (q : Exact) → ExactRun sheet noRiver (events before calls) q →
+      Near (6 * q .n) (loadedSegments sheet 0) (figuresOf (segmentCount sheet) (run before calls)) (q .now)
   -- "an accepted report made then gives these figures of the state"
   pub reports : (lent : Lent) (number : ℕ) (v : Reported) → AsLoaded sheet lent →
       reportAnswer (lent .count) (lent .columns) (run before calls) number ≡ accepted v →
       FiguresOf sheet (run before calls) number v
 
 -- "A run is one accepted loading, one accepted start into lists of any content, then any list of starts, steps and reports, refused
--- ones included." The loading is lent a list of reach records and the fourteen lists.
+-- ones included." The loading is handed a flow row's number and lent a list of reach records and the fourteen lists.
 abbrev pub Demand3 : Type 0
 Demand3 =
-    (sheet : List ℕ) (records : List Reach) (columns : Columns) (v : Loaded) → loadAnswer sheet (length records) columns ≡ accepted v →
+    (sheet : List ℕ) (r : ℕ) (records : List Reach) (columns : Columns) (v : Loaded) →
+    loadAnswer sheet r (length records) columns ≡ accepted v →
     (before : State) (lent : Lent) (u : ℕ) (calls : List Call) → T (accepts before (start lent u)) →
     Fed sheet before (start lent u ∷ calls) → Holds sheet before (start lent u ∷ calls)
 
--- What an accepted loading leaves in the fourteen lists is what an accepted call is to be lent.
+-- what a loading leaves for flow r, in lists of n segments: what an accepted call is to be lent, and, as `lists` implies, an old set
+pub record LeftFor (sheet : List ℕ) (r n : ℕ) (columns : Columns) : Type 0 where
+  pub known : r ≤ flowRowCount sheet
+  pub lists : LoadedFor sheet r (record { count = n; columns = columns })
+  pub set : SetFor sheet r n (columns .numbers)
+
+-- What an accepted loading leaves in the fourteen lists is what an accepted call is to be lent, its set on either side of a step.
 abbrev pub LoadedLists : Type 0
 LoadedLists =
-    (sheet : List ℕ) (records : List Reach) (columns : Columns) (v : Loaded) → loadAnswer sheet (length records) columns ≡ accepted v →
-    AsLoaded sheet (record { count = v .segments; columns = loadColumns sheet (length records) columns })
+    (sheet : List ℕ) (r : ℕ) (records : List Reach) (columns : Columns) (v : Loaded) →
+    loadAnswer sheet r (length records) columns ≡ accepted v →
+    LeftFor sheet r (v .segments) (loadColumns sheet r (length records) columns)

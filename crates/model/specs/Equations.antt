@@ -1,4 +1,4 @@
--- Document 01, "The equations": the sums T and V, the state of a segment, and the three right sides.
+-- Document 01, "The equations", with the two sets of document 02, 1: the sums T and V, the state of a segment, and the three right sides.
 use Prim.Native.Nat.{ℕ, _+_, _-_, _*_}
 use Rattle.rounding.specs.Nearest.{S}
 use Rattle.model.specs.HalfStep.{Numbers}
@@ -17,15 +17,23 @@ sumT n = n .e + n .g + n .l + n .a + n .k + n .s
 abbrev pub sumV : Numbers → ℕ
 sumV n = n .b + n .ks + n .m
 
--- "(S−T)C + eCabove + gCbelow + aZ + sW + 2lCL"
-abbrev pub channelRight : Numbers → (cl above below : ℕ) → Figures → ℕ
-channelRight n cl above below f =
-    (S - sumT n) * f .c + n .e * above + n .g * below + n .a * f .z + n .s * f .w + 2 * n .l * cl
+-- A segment in a step: "that step's old side keeps the half-step numbers of the flow before, its new side takes those after". Where no
+-- flow row begins to hold, both are the same, and 2l and 2m below are document 01's.
+pub record Pair : Type 0 where
+  pub old : Numbers
+  pub new : Numbers
+  pub cl : ℕ
+  pub cb : ℕ
+
+-- "(S−T)C + eCabove + gCbelow + aZ + sW + 2lCL", the old side; "2l and 2m become the old number plus the new"
+abbrev pub channelRight : Pair → (above below : ℕ) → Figures → ℕ
+channelRight x above below f =
+    (S - sumT (x .old)) * f .c + x .old .e * above + x .old .g * below + x .old .a * f .z + x .old .s * f .w + (x .old .l + x .new .l) * x .cl
 
 -- "(S−V)Z + bC + 2mCB"
-abbrev pub storageRight : Numbers → (cb : ℕ) → Figures → ℕ
-storageRight n cb f = (S - sumV n) * f .z + n .b * f .c + 2 * n .m * cb
+abbrev pub storageRight : Pair → Figures → ℕ
+storageRight x f = (S - sumV (x .old)) * f .z + x .old .b * f .c + (x .old .m + x .new .m) * x .cb
 
 -- "(S−h)W + hC"
-abbrev pub sedimentRight : Numbers → Figures → ℕ
-sedimentRight n f = (S - n .h) * f .w + n .h * f .c
+abbrev pub sedimentRight : Pair → Figures → ℕ
+sedimentRight x f = (S - x .old .h) * f .w + x .old .h * f .c

@@ -1,10 +1,26 @@
--- Document 01, "Flow and half-step numbers": the flow of each segment.
+-- Document 01, "Flow and half-step numbers", and document 02, 1: the flows of a sheet, and the flow of each segment.
+use mathlib.Core.Bool.{cond}
 use mathlib.Core.List.{List}
 use Prim.Native.Nat.{ℕ, zero, suc}
+use lib.Dec.{leb}
 use lib.IntN.{ℤ, pos, negsuc, _+ℤ_, _-ℤ_, _*ℤ_}
 use lib.ListN.{getD}
 use Rattle.rounding.specs.Floor.{floorDiv}
-use Rattle.model.specs.Sheet.{Reach, reachOf, dt, dx, topFlow, reaches, alongRiver}
+use Rattle.model.specs.Sheet.{Reach, reachOf, dt, dx, topFlow, flowRowCount, flowRowStart, flowRowTop, reaches, alongRiver}
+
+-- flow r of a sheet, by "a flow row's number (0 for the top flow ..)": the flow at the top
+unfoldable pub topOf : List ℕ → ℕ → ℕ
+topOf sheet zero = topFlow sheet
+topOf sheet (suc r) = flowRowTop sheet r
+
+-- the last of n rows that starts at or before step j, by its number; 0 where none does
+unfoldable pub lastBegun : (j : ℕ) → (start : ℕ → ℕ) → (n : ℕ) → ℕ
+lastBegun j start zero = 0
+lastBegun j start (suc r) = cond (leb (start r) j) (suc r) (lastBegun j start r)
+
+-- the flow in force at step j, by its number: "A row's flow begins to hold at the end of its step"
+unfoldable pub flowInForce : List ℕ → (j : ℕ) → ℕ
+flowInForce sheet j = lastBegun j (flowRowStart sheet) (flowRowCount sheet)
 
 -- what the half-step numbers are worked out from: dt, dx, the flow at the top and the reach of each segment
 pub record Course : Type 0 where
@@ -13,9 +29,9 @@ pub record Course : Type 0 where
   pub top : ℕ
   pub river : List Reach
 
--- that of a sheet
-unfoldable pub courseOf : List ℕ → Course
-courseOf sheet = record { dt = dt sheet; dx = dx sheet; top = topFlow sheet; river = alongRiver (reaches sheet) }
+-- that of a sheet for flow r
+unfoldable pub courseOf : List ℕ → (r : ℕ) → Course
+courseOf sheet r = record { dt = dt sheet; dx = dx sheet; top = topOf sheet r; river = alongRiver (reaches sheet) }
 
 -- the reach of segment i; past the last segment, where nothing is read, a reach of zeros
 unfoldable pub reachAt : Course → ℕ → Reach

@@ -4,7 +4,6 @@ pub mod Flow
 pub mod HalfStep
 pub mod Equations
 pub mod Sweep
-pub mod TwoSets
 pub mod ExactRiver
 pub mod State
 pub mod Refusals
@@ -14,3 +13,4 @@ pub mod Calls
 pub mod Runs
 pub mod Claim
 pub mod Bench
+pub mod FlowBench

@@ -1,4 +1,4 @@
--- A loading: tests 1 to 13, its answer, and the later content of the lists that it is lent.
+-- A loading: tests 1 to 13 with 16 among them, its answer, and the later content of the lists that it is lent.
 use mathlib.Core.Bool.{Bool, not, cond, _||_}
 use mathlib.Core.List.{List, [], _∷_, _++_}
 use Prim.Native.Nat.{ℕ, zero, suc, _+_, _*_}
@@ -6,19 +6,19 @@ use lib.Dec.{eqb, ltb}
 use lib.IntN.{pos}
 use lib.ListN.{length, getD}
 use lib.Signed.{ltZ}
-use Rattle.lists.specs.Lists.{over, anyShorter, notRising}
+use Rattle.lists.specs.Lists.{tab, over, anyShorter, notRising}
 use Rattle.rounding.specs.Nearest.{S}
-use Rattle.model.specs.Ranges.{_to_, Section, sections, outside, anyOutside, headerRanges, reachRanges, concentration, flows, mostSegments}
-use Rattle.model.specs.Sheet.{mark, startsWith, field, header, stepsM, interval, sectionEnd, reachCountAt, sheetEnd, rowsAt, gaugesAt, reachCount, rowCount, gaugeCount, Reach, reachFields, reaches, rowStarts, rowConcentrations, gauges, segmentCount}
+use Rattle.model.specs.Ranges.{_to_, Section, outside, anyOutside, headerRanges, reachRanges, concentration, flows, mostSegments}
+use Rattle.model.specs.Sheet.{otr1, otr2, startsWith, sections, field, header, stepsM, interval, sectionEnd, reachCountAt, sheetEnd, rowsAt, gaugesAt, flowRowsAt, reachCount, rowCount, gaugeCount, flowRowCount, Reach, reachFields, reaches, rowStarts, rowConcentrations, gauges, flowRowStarts, flowRowTops, segmentCount}
 use Rattle.model.specs.Flow.{Course, courseOf, flow, discharge}
 use Rattle.model.specs.HalfStep.{Numbers, ad, adBelow, numbers}
 use Rattle.model.specs.Equations.{sumT, sumV}
 use Rattle.model.specs.State.{Columns, columnLists, loadedSegments, writeSegments}
-use Rattle.model.specs.Refusals.{nothing, reach, segment, row, Outcome, accepted, refused, Finding, passes, fails, test, testEach, outcomeOf}
+use Rattle.model.specs.Refusals.{nothing, reach, segment, row, Outcome, accepted, refused, Finding, passes, fails, test, testEach, first, outcomeOf}
 
 -- 1. "Fewer than four bytes, or another mark."
 unfoldable pub unmarked : List ℕ → Bool
-unmarked sheet = not (startsWith mark sheet)
+unmarked sheet = not (startsWith otr1 sheet || startsWith otr2 sheet)
 
 -- "only 2 and 3 are found on one walk from the front, and the one met first decides": section by section from the count at `at`;
 -- 2, the sheet ends before the count or before its last record, 3, "a count is outside its range"
@@ -44,6 +44,10 @@ rowFault M starts concentrations j =
 unfoldable pub gaugeFault : (n : ℕ) → List ℕ → ℕ → Bool
 gaugeFault n gauges j = outside (1 to n) (getD gauges j 0) || notRising gauges j
 
+-- 16. "starts from 1 to M and strictly rising", and "a top flow in its old range": flow row j of two lists
+unfoldable pub flowRowFault : (M : ℕ) → (starts tops : List ℕ) → ℕ → Bool
+flowRowFault M starts tops j = outside (1 to M) (getD starts j 0) || notRising starts j || outside flows (getD tops j 0)
+
 -- 10. "A flow is below 0 or above 100,000,000"
 unfoldable pub flowFault : Course → ℕ → Bool
 flowFault course i = ltZ (flow course i) (pos (flows .low)) || ltZ (pos (flows .high)) (flow course i)
@@ -56,39 +60,44 @@ faceFault course i = ltb (ad course i + adBelow course i) (discharge course i * 
 unfoldable pub sumFault : Numbers → Bool
 sumFault n = ltb S (sumT n) || ltb S (sumV n) || ltb S (n .h)
 
--- tests 1 to 9, of the sheet's own fields
+-- tests 1 to 9 and then 16, of the sheet's own fields
 unfoldable pub sheetTests : List ℕ → List Finding
 sheetTests sheet =
     test 1 (unmarked sheet) ∷
-    walk sheet reachCountAt sections ∷
+    walk sheet reachCountAt (sections sheet) ∷
     test 4 (ltb (sheetEnd sheet) (length sheet)) ∷
     test 5 (anyOutside (headerRanges (stepsM sheet)) (header sheet)) ∷
     testEach 6 reach (reachCount sheet) (λ i. anyOutside reachRanges (reachFields sheet i)) ∷
     test 7 (ltb mostSegments (segmentCount sheet)) ∷
     testEach 8 row (rowCount sheet) (rowFault (stepsM sheet) (rowStarts sheet) (rowConcentrations sheet)) ∷
     testEach 9 row (gaugeCount sheet) (gaugeFault (segmentCount sheet) (gauges sheet)) ∷
+    testEach 16 row (flowRowCount sheet) (flowRowFault (stepsM sheet) (flowRowStarts sheet) (flowRowTops sheet)) ∷
     []
 
--- tests 10 to 12, of n segments
-unfoldable pub courseTests : (n : ℕ) → Course → List Finding
-courseTests n course =
-    testEach 10 segment n (flowFault course) ∷
-    testEach 11 segment n (faceFault course) ∷
-    testEach 12 segment n (λ i. sumFault (numbers course i)) ∷
+-- a test "made for the top flow and then for every row in turn"; "the first flow at fault gives the place"
+unfoldable pub testFlows : (rows : ℕ) → (ℕ → Finding) → Finding
+testFlows rows finding = first (tab 0 (suc rows) finding)
+
+-- tests 10 to 12, of n segments with the flow at the top and those of the rows; "each .. before the next check"
+unfoldable pub courseTests : (n rows : ℕ) → (ℕ → Course) → List Finding
+courseTests n rows course =
+    testFlows rows (λ r. testEach 10 segment n (flowFault (course r))) ∷
+    testFlows rows (λ r. testEach 11 segment n (faceFault (course r))) ∷
+    testFlows rows (λ r. testEach 12 segment n (λ i. sumFault (numbers (course r) i))) ∷
     []
 
--- test 13, of the lists lent; `records` is the length of the list of reach records
-unfoldable pub listTests : List ℕ → (records : ℕ) → Columns → List Finding
-listTests sheet records columns =
-    test 13 (anyShorter (segmentCount sheet) (columnLists columns) || ltb records (reachCount sheet)) ∷ []
+-- test 13, of "a flow row's number (.. 13 if past the rows)", which is r, and of the lists lent; `records` is the length of the list of reach records
+unfoldable pub listTests : List ℕ → (r records : ℕ) → Columns → List Finding
+listTests sheet r records columns =
+    test 13 (ltb (flowRowCount sheet) r || anyShorter (segmentCount sheet) (columnLists columns) || ltb records (reachCount sheet)) ∷ []
 
--- "Loading tests 1 to 13"
-unfoldable pub loadTests : List ℕ → (records : ℕ) → Columns → List Finding
-loadTests sheet records columns =
-    sheetTests sheet ++ courseTests (segmentCount sheet) (courseOf sheet) ++ listTests sheet records columns
+-- "Loading tests 1 to 13"; "16 .. after 9"
+unfoldable pub loadTests : List ℕ → (r records : ℕ) → Columns → List Finding
+loadTests sheet r records columns =
+    sheetTests sheet ++ courseTests (segmentCount sheet) (flowRowCount sheet) (courseOf sheet) ++ listTests sheet r records columns
 
 -- "Its result also gives M, the print interval, the segment count, and where the rows and the gauges begin on the sheet and how
--- many there are."
+-- many there are", and "tells where the flow rows begin and how many there are"
 pub record Loaded : Type 0 where
   pub steps : ℕ
   pub interval : ℕ
@@ -97,6 +106,8 @@ pub record Loaded : Type 0 where
   pub rows : ℕ
   pub gaugesAt : ℕ
   pub gauges : ℕ
+  pub flowRowsAt : ℕ
+  pub flowRows : ℕ
 
 -- those of a sheet
 unfoldable pub loaded : List ℕ → Loaded
@@ -108,20 +119,22 @@ loaded sheet = record {
   rows = rowCount sheet;
   gaugesAt = gaugesAt sheet;
   gauges = gaugeCount sheet;
+  flowRowsAt = flowRowsAt sheet;
+  flowRows = flowRowCount sheet;
 }
 
 -- the answer
-unfoldable pub loadAnswer : List ℕ → (records : ℕ) → Columns → Outcome Loaded
-loadAnswer sheet records columns = outcomeOf (loadTests sheet records columns) (loaded sheet)
+unfoldable pub loadAnswer : List ℕ → (r records : ℕ) → Columns → Outcome Loaded
+loadAnswer sheet r records columns = outcomeOf (loadTests sheet r records columns) (loaded sheet)
 
--- the fourteen lists afterwards: an accepted loading writes their first entries, a refusal nothing
-abbrev pub columnsAfter : Outcome Loaded → List ℕ → Columns → Columns
-columnsAfter (accepted v) sheet before = writeSegments (loadedSegments sheet) before
-columnsAfter (refused number place) sheet before = before
+-- the fourteen lists afterwards: an accepted loading writes their first entries, with "that flow's set", a refusal nothing
+abbrev pub columnsAfter : Outcome Loaded → List ℕ → (r : ℕ) → Columns → Columns
+columnsAfter (accepted v) sheet r before = writeSegments (loadedSegments sheet r) before
+columnsAfter (refused number place) sheet r before = before
 
 -- and with its own answer
-unfoldable pub loadColumns : List ℕ → (records : ℕ) → Columns → Columns
-loadColumns sheet records before = columnsAfter (loadAnswer sheet records before) sheet before
+unfoldable pub loadColumns : List ℕ → (r records : ℕ) → Columns → Columns
+loadColumns sheet r records before = columnsAfter (loadAnswer sheet r records before) sheet r before
 
 -- the list of reach records afterwards: "an accepted loading fills its first entries from the sheet, one for each reach"
 abbrev pub recordsAfter : Outcome Loaded → List ℕ → List Reach → List Reach
@@ -129,5 +142,5 @@ recordsAfter (accepted v) sheet before = over (reaches sheet) before
 recordsAfter (refused number place) sheet before = before
 
 -- and with its own answer
-unfoldable pub loadRecords : List ℕ → List Reach → Columns → List Reach
-loadRecords sheet before columns = recordsAfter (loadAnswer sheet (length before) columns) sheet before
+unfoldable pub loadRecords : List ℕ → (r : ℕ) → List Reach → Columns → List Reach
+loadRecords sheet r before columns = recordsAfter (loadAnswer sheet r (length before) columns) sheet before

@@ -1,4 +1,4 @@
--- Document 01, "The river sheet": the range of every field and count, and the limits of the calls, each written once.
+-- Document 01, "The river sheet", with the sections of document 02: the range of every field and count, and the limits of the calls, each written once.
 use mathlib.Core.Bool.{Bool, false, _||_}
 use mathlib.Core.List.{List, [], _∷_}
 use Prim.Native.Nat.{ℕ}
@@ -105,6 +105,6 @@ rowSection = record { counts = 1 to 256; width = 2 }
 abbrev pub gaugeSection : Section
 gaugeSection = record { counts = 1 to 32; width = 1 }
 
--- the sections behind the header, in the sheet's order
-abbrev pub sections : List Section
-sections = reachSection ∷ rowSection ∷ gaugeSection ∷ []
+-- Document 02, 1: "a count (1 to 64) of flow rows, each a start step and a top flow"
+abbrev pub flowSection : Section
+flowSection = record { counts = 1 to 64; width = 2 }

@@ -35,7 +35,8 @@ test number fault = cond fault (fails number nothing) passes
 abbrev pub testEach : ℕ → (ℕ → Place) → (n : ℕ) → (ℕ → Bool) → Finding
 testEach number place n fault = cond (ltb (lowest n fault) n) (fails number (place (suc (lowest n fault)))) passes
 
--- "Tests run in the order of their numbers, each over the whole river before the next": the first that fails decides
+-- "Tests run in the order of their numbers, each over the whole river before the next", and 16 after 9: of a list of tests the first that
+-- fails decides
 abbrev pub first : List Finding → Finding
 first [] = passes
 first (passes ∷ tests) = first tests

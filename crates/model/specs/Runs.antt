@@ -1,14 +1,17 @@
--- Document 01, "The run and its exact river": lists of calls, and the exact river that is fed them.
+-- Document 01, "The run and its exact river", with the flow rows of document 02, 1: lists of calls, and the exact river that is fed them.
 use mathlib.Core.Path.{_≡_}
 use mathlib.Core.Bool.{Bool, true, false}
 use mathlib.Core.List.{List, [], _∷_, map}
-use Prim.Native.Nat.{ℕ, suc}
+use Prim.Native.Nat.{ℕ, suc, _≤_}
 use lib.Dec.{T}
+use Rattle.lists.specs.Lists.{tab}
 use Rattle.fractions.specs.Fractions.{whole}
-use Rattle.model.specs.Sheet.{segmentCount}
-use Rattle.model.specs.HalfStep.{Segment}
-use Rattle.model.specs.ExactRiver.{ExactFigures, Solves, Along}
-use Rattle.model.specs.State.{Columns, segmentsOf, loadedSegments, State}
+use Rattle.model.specs.Sheet.{segmentCount, flowRowCount}
+use Rattle.model.specs.Flow.{courseOf, flowInForce, reachAt}
+use Rattle.model.specs.HalfStep.{numbers, Segment}
+use Rattle.model.specs.Equations.{Pair}
+use Rattle.model.specs.ExactRiver.{ExactFigures, ExactStep}
+use Rattle.model.specs.State.{NumberSet, numbersOf, Columns, segmentsOf, loadedSegments, loadedNumbers, State}
 use Rattle.model.specs.Refusals.{isAccepted}
 use Rattle.model.specs.Calls.{Working, startAnswer, startState, stepAnswer, stepState, reportAnswer}
 
@@ -17,28 +20,22 @@ pub record Lent : Type 0 where
   pub count : ℕ
   pub columns : Columns
 
--- "A start is also handed U at step 0; a step U' and M; a report a segment"; a step is lent working lists
+-- "A start is also handed U at step 0; a step U' and M; a report a segment"; a step is also lent its old set and working lists
 pub data Call : Type 0 where
   start : Lent → (u : ℕ) → Call
-  step : Lent → Working → (u′ M : ℕ) → Call
+  step : (old : NumberSet) → Lent → Working → (u′ M : ℕ) → Call
   report : Lent → (number : ℕ) → Call
-
--- what a call was lent
-abbrev pub lentTo : Call → Lent
-lentTo (start lent u) = lent
-lentTo (step lent working u′ M) = lent
-lentTo (report lent number) = lent
 
 -- the call is accepted
 unfoldable pub accepts : State → Call → Bool
 accepts state (start lent u) = isAccepted (startAnswer (lent .count) (lent .columns) state u)
-accepts state (step lent working u′ M) = isAccepted (stepAnswer (lent .count) (lent .columns) state working u′ M)
+accepts state (step old lent working u′ M) = isAccepted (stepAnswer (lent .count) old (lent .columns) state working u′ M)
 accepts state (report lent number) = isAccepted (reportAnswer (lent .count) (lent .columns) state number)
 
 -- the state that a call leaves; "A report or a refused call leaves the state as it was."
 unfoldable pub after : State → Call → State
 after state (start lent u) = startState (lent .count) (lent .columns) state u
-after state (step lent working u′ M) = stepState (lent .count) (lent .columns) state working u′ M
+after state (step old lent working u′ M) = stepState (lent .count) old (lent .columns) state working u′ M
 after state (report lent number) = state
 
 -- "Every call is lent the state as the call before left it"
@@ -46,15 +43,37 @@ unfoldable pub run : State → List Call → State
 run state [] = state
 run state (call ∷ calls) = run (after state call) calls
 
--- "the half-step numbers, CL, CB, Kd and start figures as loaded from the sheet, with its segment count"
-pub record AsLoaded (sheet : List ℕ) (lent : Lent) : Type 0 where
+-- "the half-step numbers, CL, CB, Kd and start figures as loaded from the sheet, with its segment count", for flow r
+pub record LoadedFor (sheet : List ℕ) (r : ℕ) (lent : Lent) : Type 0 where
   pub count : lent .count ≡ segmentCount sheet
-  pub segments : segmentsOf (lent .count) (lent .columns) ≡ loadedSegments sheet
+  pub segments : segmentsOf (lent .count) (lent .columns) ≡ loadedSegments sheet r
+
+-- a set that is lent to a river of n segments is flow r's, as loaded
+abbrev pub SetFor : (sheet : List ℕ) → (r n : ℕ) → NumberSet → Type 0
+SetFor sheet r n set = numbersOf n set ≡ loadedNumbers sheet r
+
+-- a start and a report are lent one set, which may be that of any flow of the sheet
+pub record AsLoaded (sheet : List ℕ) (lent : Lent) : Type 0 where
+  pub flow : ℕ
+  pub known : flow ≤ flowRowCount sheet
+  pub lists : LoadedFor sheet flow lent
+
+-- "the accepted step that raises the count from n to n + 1 is lent the pair that the sheet's rows give for step n + 1": on its old side
+-- the set of the flow in force at step n, on its new side that of the flow in force at step n + 1
+pub record PairAsLoaded (sheet : List ℕ) (n : ℕ) (old : NumberSet) (lent : Lent) : Type 0 where
+  pub before : SetFor sheet (flowInForce sheet n) (lent .count) old
+  pub after : LoadedFor sheet (flowInForce sheet (suc n)) lent
+
+-- what a call of the run is lent, from a state with this count of steps
+abbrev pub LentFrom : List ℕ → State → Call → Type 0
+LentFrom sheet state (start lent u) = AsLoaded sheet lent
+LentFrom sheet state (step old lent working u′ M) = PairAsLoaded sheet (state .steps) old lent
+LentFrom sheet state (report lent number) = AsLoaded sheet lent
 
 -- "every accepted one" is lent that; refused calls may be lent anything
 pub data Fed (sheet : List ℕ) : State → List Call → Type 0 where
   none : {state : State} → Fed sheet state []
-  more : {state : State} {call : Call} {calls : List Call} → (T (accepts state call) → AsLoaded sheet (lentTo call)) →
+  more : {state : State} {call : Call} {calls : List Call} → (T (accepts state call) → LentFrom sheet state call) →
       Fed sheet (after state call) calls → Fed sheet state (call ∷ calls)
 
 -- what the exact river is fed of a call: "its kind, a start's U or a step's U', and whether it was accepted; nothing else".
@@ -68,7 +87,7 @@ pub data Event : Type 0 where
 abbrev pub event : Bool → Call → Event
 event false call = still
 event true (start lent u) = started u
-event true (step lent working u′ M) = moved u′
+event true (step old lent working u′ M) = moved u′
 event true (report lent number) = still
 
 -- those of a list of calls from a state
@@ -91,18 +110,29 @@ noRiver = record { now = []; past = []; upstream = 0; n = 0 }
 abbrev pub exactStart : Segment → ExactFigures
 exactStart x = record { c = whole (x .start); z = whole (x .start); w = whole (x .start) }
 
--- one event, over the sheet's segments
-pub data ExactEvent (xs : List Segment) : Event → Exact → Exact → Type 0 where
+-- "the exact river takes the same pair from the sheet": segment i in the step from n to n + 1
+abbrev pub sheetPair : List ℕ → (n : ℕ) → ℕ → Pair
+sheetPair sheet n i =
+    let before = courseOf sheet (flowInForce sheet n) in
+    let after = courseOf sheet (flowInForce sheet (suc n)) in
+    record { old = numbers before i; new = numbers after i; cl = reachAt after i .cl; cb = reachAt after i .cb }
+
+-- all segments
+abbrev pub sheetPairs : List ℕ → (n : ℕ) → List Pair
+sheetPairs sheet n = tab 0 (segmentCount sheet) (sheetPair sheet n)
+
+-- one event on the sheet's river; its start figures and Kd are those of any flow, so those of the flow at the top are taken
+pub data ExactEvent (sheet : List ℕ) : Event → Exact → Exact → Type 0 where
   -- "An accepted start sets n to 0, C, Z and W of each segment to its start figure, and U to the one handed."
   starts : {u : ℕ} {q : Exact} →
-      ExactEvent xs (started u) q (record { now = map exactStart xs; past = []; upstream = u; n = 0 })
+      ExactEvent sheet (started u) q (record { now = map exactStart (loadedSegments sheet 0); past = []; upstream = u; n = 0 })
   -- "An accepted step adds 1 to n. Its C', Z' and W' are fractions that solve the three equations of all segments together, from the
   -- figures and U before it and its own U'. They then become C, Z and W, and U' becomes U."
-  moves : {u′ : ℕ} {q : Exact} {new : List ExactFigures} → Along Solves (whole u′) (whole (q .upstream)) xs (q .now) new →
-      ExactEvent xs (moved u′) q (record { now = new; past = q .now ∷ q .past; upstream = u′; n = suc (q .n) })
-  stays : {q : Exact} → ExactEvent xs still q q
+  moves : {u′ : ℕ} {q : Exact} {new : List ExactFigures} → ExactStep (q .upstream) u′ (sheetPairs sheet (q .n)) (q .now) new →
+      ExactEvent sheet (moved u′) q (record { now = new; past = q .now ∷ q .past; upstream = u′; n = suc (q .n) })
+  stays : {q : Exact} → ExactEvent sheet still q q
 
 -- a list of events
-pub data ExactRun (xs : List Segment) : Exact → List Event → Exact → Type 0 where
-  none : {q : Exact} → ExactRun xs q [] q
-  more : {q r t : Exact} {e : Event} {es : List Event} → ExactEvent xs e q r → ExactRun xs r es t → ExactRun xs q (e ∷ es) t
+pub data ExactRun (sheet : List ℕ) : Exact → List Event → Exact → Type 0 where
+  none : {q : Exact} → ExactRun sheet q [] q
+  more : {q r t : Exact} {e : Event} {es : List Event} → ExactEvent sheet e q r → ExactRun sheet r es t → ExactRun sheet q (e ∷ es) t

@@ -1,22 +1,34 @@
--- Document 01, "The river sheet": where each field stands on a sheet marked OTR1, and what is read there.
+-- Document 01, "The river sheet", and document 02, 1: where each field stands on a sheet marked OTR1 or OTR2, and what is read there.
 -- A sheet is its list of bytes. Reaches, rows and gauges count from 1 in document 01 and from 0 here; places count from 1.
-use mathlib.Core.Bool.{Bool, true, false, _&&_}
+use mathlib.Core.Bool.{Bool, true, false, cond, _&&_}
 use mathlib.Core.List.{List, [], _∷_, _++_}
 use Prim.Native.Nat.{ℕ, _+_, _*_}
 use lib.Dec.{eqb}
 use lib.ListN.{getD, replicate}
 use Rattle.lists.specs.Lists.{tab}
-use Rattle.model.specs.Ranges.{Section, reachSection, rowSection, gaugeSection}
+use Rattle.model.specs.Ranges.{Section, reachSection, rowSection, gaugeSection, flowSection}
 
 -- "A sheet starts with the four bytes OTR1"
-abbrev pub mark : List ℕ
-mark = 79 ∷ 84 ∷ 82 ∷ 49 ∷ []
+abbrev pub otr1 : List ℕ
+otr1 = 79 ∷ 84 ∷ 82 ∷ 49 ∷ []
+
+-- Document 02, 1: "A sheet marked OTR2"
+abbrev pub otr2 : List ℕ
+otr2 = 79 ∷ 84 ∷ 82 ∷ 50 ∷ []
 
 -- the sheet starts with these bytes
 unfoldable pub startsWith : List ℕ → List ℕ → Bool
 startsWith [] sheet = true
 startsWith (byte ∷ bytes) [] = false
 startsWith (byte ∷ bytes) (b ∷ sheet) = eqb b byte && startsWith bytes sheet
+
+-- Document 02, 1: "A sheet marked OTR2 has a fourth section after the gauges"
+unfoldable pub hasFlowRows : List ℕ → Bool
+hasFlowRows sheet = startsWith otr2 sheet
+
+-- the sections behind the header, in the sheet's order
+unfoldable pub sections : List ℕ → List Section
+sections sheet = reachSection ∷ rowSection ∷ gaugeSection ∷ cond (hasFlowRows sheet) (flowSection ∷ []) []
 
 -- "All fields are unsigned 32-bit, little-endian": the field whose first byte is byte number `at`, from 0 at the mark
 unfoldable pub field : List ℕ → ℕ → ℕ
@@ -70,9 +82,13 @@ rowCountAt sheet = sectionEnd sheet reachCountAt reachSection
 unfoldable pub gaugeCountAt : List ℕ → ℕ
 gaugeCountAt sheet = sectionEnd sheet (rowCountAt sheet) rowSection
 
--- behind the last gauge
+-- behind the last gauge: there OTR1 ends, and in OTR2 the count of flow rows stands
+unfoldable pub flowRowCountAt : List ℕ → ℕ
+flowRowCountAt sheet = sectionEnd sheet (gaugeCountAt sheet) gaugeSection
+
+-- the end of "whichever section is last"
 unfoldable pub sheetEnd : List ℕ → ℕ
-sheetEnd sheet = sectionEnd sheet (gaugeCountAt sheet) gaugeSection
+sheetEnd sheet = cond (hasFlowRows sheet) (sectionEnd sheet (flowRowCountAt sheet) flowSection) (flowRowCountAt sheet)
 
 -- "Count of reaches"
 abbrev pub reachCount : List ℕ → ℕ
@@ -86,6 +102,10 @@ rowCount sheet = field sheet (rowCountAt sheet)
 abbrev pub gaugeCount : List ℕ → ℕ
 gaugeCount sheet = field sheet (gaugeCountAt sheet)
 
+-- the count of flow rows, "how many there are (.. 0 in OTR1)"
+unfoldable pub flowRowCount : List ℕ → ℕ
+flowRowCount sheet = cond (hasFlowRows sheet) (field sheet (flowRowCountAt sheet)) 0
+
 -- where the rows and the gauges begin on the sheet: the first byte behind their count
 abbrev pub rowsAt : List ℕ → ℕ
 rowsAt sheet = rowCountAt sheet + 4
@@ -93,6 +113,10 @@ rowsAt sheet = rowCountAt sheet + 4
 -- and the gauges
 abbrev pub gaugesAt : List ℕ → ℕ
 gaugesAt sheet = gaugeCountAt sheet + 4
+
+-- and "where the flow rows begin .. (.. 0 in OTR1)"
+unfoldable pub flowRowsAt : List ℕ → ℕ
+flowRowsAt sheet = cond (hasFlowRows sheet) (flowRowCountAt sheet + 4) 0
 
 -- field k of record i of a section whose count stands at `at`
 unfoldable pub recordField : List ℕ → ℕ → Section → ℕ → ℕ → ℕ
@@ -161,6 +185,22 @@ rowConcentrations sheet = tab 0 (rowCount sheet) (λ j. recordField sheet (rowCo
 -- gauges: segment numbers
 unfoldable pub gauges : List ℕ → List ℕ
 gauges sheet = tab 0 (gaugeCount sheet) (λ j. recordField sheet (gaugeCountAt sheet) gaugeSection j 0)
+
+-- flow rows: the start step of row r, which counts from 0
+unfoldable pub flowRowStart : List ℕ → ℕ → ℕ
+flowRowStart sheet r = recordField sheet (flowRowCountAt sheet) flowSection r 0
+
+-- its top flow
+unfoldable pub flowRowTop : List ℕ → ℕ → ℕ
+flowRowTop sheet r = recordField sheet (flowRowCountAt sheet) flowSection r 1
+
+-- the start steps of all flow rows
+unfoldable pub flowRowStarts : List ℕ → List ℕ
+flowRowStarts sheet = tab 0 (flowRowCount sheet) (flowRowStart sheet)
+
+-- and their top flows
+unfoldable pub flowRowTops : List ℕ → List ℕ
+flowRowTops sheet = tab 0 (flowRowCount sheet) (flowRowTop sheet)
 
 -- the segments of all reaches together
 unfoldable pub totalSegments : List Reach → ℕ

@@ -1,15 +1,15 @@
 -- Document 01, "The sweep", last paragraph: the lists that the calls are lent.
-use mathlib.Core.List.{List, [], _∷_, map}
+use mathlib.Core.List.{List, [], _∷_, _++_, map}
 use Prim.Native.Nat.{ℕ}
 use lib.ListN.{getD}
 use Rattle.lists.specs.Lists.{tab, over}
 use Rattle.model.specs.Sheet.{segmentCount}
 use Rattle.model.specs.Flow.{courseOf}
-use Rattle.model.specs.HalfStep.{Segment, loadedSegment}
-use Rattle.model.specs.Equations.{Figures}
+use Rattle.model.specs.HalfStep.{Numbers, numbers, Segment, loadedSegment}
+use Rattle.model.specs.Equations.{Figures, Pair}
 
--- the fourteen lists of a loading: "each segment's half-step numbers, CL, CB, Kd and start figure in lists"
-pub record Columns : Type 0 where
+-- a set: the ten lists of half-step numbers, which document 02, 1 calls a flow's set
+pub record NumberSet : Type 0 where
   pub e : List ℕ
   pub g : List ℕ
   pub l : List ℕ
@@ -20,6 +20,34 @@ pub record Columns : Type 0 where
   pub h : List ℕ
   pub m : List ℕ
   pub s : List ℕ
+
+-- its ten lists, for the test of their lengths
+abbrev pub setLists : NumberSet → List (List ℕ)
+setLists x =
+    x .e ∷ x .g ∷ x .l ∷ x .a ∷ x .b ∷ x .k ∷ x .ks ∷ x .h ∷ x .m ∷ x .s ∷ []
+
+-- entry i of each list
+unfoldable pub numbersAt : NumberSet → ℕ → Numbers
+numbersAt x i = record {
+  e = getD (x .e) i 0;
+  g = getD (x .g) i 0;
+  l = getD (x .l) i 0;
+  a = getD (x .a) i 0;
+  b = getD (x .b) i 0;
+  k = getD (x .k) i 0;
+  ks = getD (x .ks) i 0;
+  h = getD (x .h) i 0;
+  m = getD (x .m) i 0;
+  s = getD (x .s) i 0;
+}
+
+-- the first n entries, a record for each segment
+abbrev pub numbersOf : ℕ → NumberSet → List Numbers
+numbersOf n x = tab 0 n (numbersAt x)
+
+-- the fourteen lists of a loading: "each segment's half-step numbers, CL, CB, Kd and start figure in lists"
+pub record Columns : Type 0 where
+  pub numbers : NumberSet
   pub cl : List ℕ
   pub cb : List ℕ
   pub kd : List ℕ
@@ -27,24 +55,12 @@ pub record Columns : Type 0 where
 
 -- the fourteen lists, for the test of their lengths
 abbrev pub columnLists : Columns → List (List ℕ)
-columnLists x =
-    x .e ∷ x .g ∷ x .l ∷ x .a ∷ x .b ∷ x .k ∷ x .ks ∷ x .h ∷ x .m ∷ x .s ∷ x .cl ∷ x .cb ∷ x .kd ∷ x .start ∷ []
+columnLists x = setLists (x .numbers) ++ x .cl ∷ x .cb ∷ x .kd ∷ x .start ∷ []
 
 -- entry i of each list
 unfoldable pub segmentAt : Columns → ℕ → Segment
 segmentAt x i = record {
-  numbers = record {
-    e = getD (x .e) i 0;
-    g = getD (x .g) i 0;
-    l = getD (x .l) i 0;
-    a = getD (x .a) i 0;
-    b = getD (x .b) i 0;
-    k = getD (x .k) i 0;
-    ks = getD (x .ks) i 0;
-    h = getD (x .h) i 0;
-    m = getD (x .m) i 0;
-    s = getD (x .s) i 0;
-  };
+  numbers = numbersAt (x .numbers) i;
   cl = getD (x .cl) i 0;
   cb = getD (x .cb) i 0;
   kd = getD (x .kd) i 0;
@@ -55,28 +71,42 @@ segmentAt x i = record {
 abbrev pub segmentsOf : ℕ → Columns → List Segment
 segmentsOf n x = tab 0 n (segmentAt x)
 
+-- "A step is lent both sets": segment i, with its old numbers from one set and its new ones from the fourteen lists
+unfoldable pub pairAt : (old : NumberSet) → (new : Columns) → ℕ → Pair
+pairAt old new i = record { old = numbersAt old i; new = numbersAt (new .numbers) i; cl = getD (new .cl) i 0; cb = getD (new .cb) i 0 }
+
+-- the first n
+abbrev pub pairsOf : ℕ → (old : NumberSet) → (new : Columns) → List Pair
+pairsOf n old new = tab 0 n (pairAt old new)
+
 -- the lists with these segments over their first entries
 unfoldable pub writeSegments : List Segment → Columns → Columns
 writeSegments segments before = record {
-  e = over (map (λ x. x .numbers .e) segments) (before .e);
-  g = over (map (λ x. x .numbers .g) segments) (before .g);
-  l = over (map (λ x. x .numbers .l) segments) (before .l);
-  a = over (map (λ x. x .numbers .a) segments) (before .a);
-  b = over (map (λ x. x .numbers .b) segments) (before .b);
-  k = over (map (λ x. x .numbers .k) segments) (before .k);
-  ks = over (map (λ x. x .numbers .ks) segments) (before .ks);
-  h = over (map (λ x. x .numbers .h) segments) (before .h);
-  m = over (map (λ x. x .numbers .m) segments) (before .m);
-  s = over (map (λ x. x .numbers .s) segments) (before .s);
+  numbers = record {
+    e = over (map (λ x. x .numbers .e) segments) (before .numbers .e);
+    g = over (map (λ x. x .numbers .g) segments) (before .numbers .g);
+    l = over (map (λ x. x .numbers .l) segments) (before .numbers .l);
+    a = over (map (λ x. x .numbers .a) segments) (before .numbers .a);
+    b = over (map (λ x. x .numbers .b) segments) (before .numbers .b);
+    k = over (map (λ x. x .numbers .k) segments) (before .numbers .k);
+    ks = over (map (λ x. x .numbers .ks) segments) (before .numbers .ks);
+    h = over (map (λ x. x .numbers .h) segments) (before .numbers .h);
+    m = over (map (λ x. x .numbers .m) segments) (before .numbers .m);
+    s = over (map (λ x. x .numbers .s) segments) (before .numbers .s);
+  };
   cl = over (map (λ x. x .cl) segments) (before .cl);
   cb = over (map (λ x. x .cb) segments) (before .cb);
   kd = over (map (λ x. x .kd) segments) (before .kd);
   start = over (map (λ x. x .start) segments) (before .start);
 }
 
--- the segments of an accepted sheet: "A loading gives each segment's half-step numbers, CL, CB, Kd and start figure in lists"
-abbrev pub loadedSegments : List ℕ → List Segment
-loadedSegments sheet = tab 0 (segmentCount sheet) (loadedSegment (courseOf sheet))
+-- the segments of an accepted sheet for flow r: "A loading gives each segment's half-step numbers, CL, CB, Kd and start figure in lists"
+abbrev pub loadedSegments : List ℕ → (r : ℕ) → List Segment
+loadedSegments sheet r = tab 0 (segmentCount sheet) (loadedSegment (courseOf sheet r))
+
+-- the numbers alone: flow r's set
+abbrev pub loadedNumbers : List ℕ → (r : ℕ) → List Numbers
+loadedNumbers sheet r = tab 0 (segmentCount sheet) (numbers (courseOf sheet r))
 
 -- "The state is three lists of 32-bit figures, one per segment, with U and the count of steps done."
 pub record State : Type 0 where

@@ -1,29 +1,28 @@
--- Document 01, "The sweep". "Every division is to the nearest, half up."
+-- Document 01, "The sweep", with the two sets of document 02, 1. "Every division is to the nearest, half up."
 use mathlib.Core.List.{List, [], _∷_}
 use Prim.Native.Nat.{ℕ, _+_, _-_, _*_, min}
 use Rattle.rounding.specs.Nearest.{S, nearest}
 use Rattle.model.specs.Ranges.{highest}
-use Rattle.model.specs.HalfStep.{Numbers, Segment}
-use Rattle.model.specs.Equations.{Figures, sumV, channelRight, storageRight, sedimentRight}
+use Rattle.model.specs.HalfStep.{Numbers}
+use Rattle.model.specs.Equations.{Figures, Pair, sumV, channelRight, storageRight, sedimentRight}
 
--- "P = ((S−V)Z + bC + 2mCB)/(S+V)"
-unfoldable pub P : Numbers → (cb : ℕ) → Figures → ℕ
-P n cb f = nearest (storageRight n cb f) (S + sumV n)
+-- "P = ((S−V)Z + bC + 2mCB)/(S+V)"; "P and N divide the old numerator by the new S+V and S+h"
+unfoldable pub P : Pair → Figures → ℕ
+P x f = nearest (storageRight x f) (S + sumV (x .new))
 
 -- "N = ((S−h)W + hC)/(S+h)"
-unfoldable pub N : Numbers → Figures → ℕ
-N n f = nearest (sedimentRight n f) (S + n .h)
+unfoldable pub N : Pair → Figures → ℕ
+N x f = nearest (sedimentRight x f) (S + x .new .h)
 
--- "F = S+e+g+l+k + a(S+ks+m)/(S+V) + sS/(S+h), its two quotients divided singly"
+-- "F = S+e+g+l+k + a(S+ks+m)/(S+V) + sS/(S+h), its two quotients divided singly", of the new numbers
 unfoldable pub F : Numbers → ℕ
 F n = S + n .e + n .g + n .l + n .k + nearest (n .a * (S + n .ks + n .m)) (S + sumV n) + nearest (n .s * S) (S + n .h)
 
--- "R is the channel's right side plus aP + sN"; "plus eU' in segment 1" is `yNumerator`'s
-unfoldable pub R : Segment → (above below : ℕ) → Figures → ℕ
-R x above below f =
-    channelRight (x .numbers) (x .cl) above below f + x .numbers .a * P (x .numbers) (x .cb) f + x .numbers .s * N (x .numbers) f
+-- "R is the channel's right side plus aP + sN"; "In R, aP, sN and eU' take the new numbers", where "plus eU' in segment 1" is `yNumerator`'s
+unfoldable pub R : Pair → (above below : ℕ) → Figures → ℕ
+R x above below f = channelRight x above below f + x .new .a * P x f + x .new .s * N x f
 
--- what the two passes need of a segment
+-- what the two passes need of a segment: F, e and g of the new numbers, and R
 pub record Row : Type 0 where
   pub F : ℕ
   pub e : ℕ
@@ -36,14 +35,14 @@ below [] = 0
 below (f ∷ fs) = f .c
 
 -- the row of a segment
-unfoldable pub rowOf : Segment → (above below : ℕ) → Figures → Row
-rowOf x above below f = record { F = F (x .numbers); e = x .numbers .e; g = x .numbers .g; R = R x above below f }
+unfoldable pub rowOf : Pair → (above below : ℕ) → Figures → Row
+rowOf x above below f = record { F = F (x .new); e = x .new .e; g = x .new .g; R = R x above below f }
 
 -- a row for each segment from one down, `above` being the channel figure that stands above that one, which is U above segment 1
-abbrev pub rows : {X : Type 0} → (X → (above below : ℕ) → Figures → Row) → (above : ℕ) → List X → List Figures → List Row
-rows rowOf above [] fs = []
-rows rowOf above (x ∷ xs) [] = []
-rows rowOf above (x ∷ xs) (f ∷ fs) = rowOf x above (below fs) f ∷ rows rowOf (f .c) xs fs
+abbrev pub rows : (above : ℕ) → List Pair → List Figures → List Row
+rows above [] fs = []
+rows above (x ∷ xs) [] = []
+rows above (x ∷ xs) (f ∷ fs) = rowOf x above (below fs) f ∷ rows (f .c) xs fs
 
 -- what the downward pass leaves of a segment
 pub record Passed : Type 0 where
@@ -88,29 +87,29 @@ up (d ∷ ds) = onTop d (up ds) ∷ up ds
 abbrev pub clamp : ℕ → ℕ
 clamp x = min x highest
 
--- "Then Z' and W' from their equations", with the new C' and one division each
-unfoldable pub newStorage : Numbers → (cb : ℕ) → Figures → (c′ : ℕ) → ℕ
-newStorage n cb f c′ = nearest (storageRight n cb f + n .b * c′) (S + sumV n)
+-- "Then Z' and W' from their equations", with the new C' and one division each; its left side has the new numbers
+unfoldable pub newStorage : Pair → Figures → (c′ : ℕ) → ℕ
+newStorage x f c′ = nearest (storageRight x f + x .new .b * c′) (S + sumV (x .new))
 
 -- W'
-unfoldable pub newSediment : Numbers → Figures → (c′ : ℕ) → ℕ
-newSediment n f c′ = nearest (sedimentRight n f + n .h * c′) (S + n .h)
+unfoldable pub newSediment : Pair → Figures → (c′ : ℕ) → ℕ
+newSediment x f c′ = nearest (sedimentRight x f + x .new .h * c′) (S + x .new .h)
 
 -- the new figures of a segment, from its old ones and its new channel figure
-unfoldable pub newFigures : Segment → Figures → (c′ : ℕ) → Figures
-newFigures x f c′ = record { c = c′; z = newStorage (x .numbers) (x .cb) f c′; w = newSediment (x .numbers) f c′ }
+unfoldable pub newFigures : Pair → Figures → (c′ : ℕ) → Figures
+newFigures x f c′ = record { c = c′; z = newStorage x f c′; w = newSediment x f c′ }
 
 -- the new figures of all segments, from what the upward pass left
-abbrev pub finish : {X : Type 0} → (X → Figures → (c′ : ℕ) → Figures) → List X → List Figures → List ℕ → List Figures
-finish new [] fs cs = []
-finish new (x ∷ xs) [] cs = []
-finish new (x ∷ xs) (f ∷ fs) [] = []
-finish new (x ∷ xs) (f ∷ fs) (c ∷ cs) = new x f (clamp c) ∷ finish new xs fs cs
+abbrev pub finish : List Pair → List Figures → List ℕ → List Figures
+finish [] fs cs = []
+finish (x ∷ xs) [] cs = []
+finish (x ∷ xs) (f ∷ fs) [] = []
+finish (x ∷ xs) (f ∷ fs) (c ∷ cs) = newFigures x f (clamp c) ∷ finish xs fs cs
 
 -- the downward pass of a step from the figures fs, with U and U'
-unfoldable pub downward : (u u′ : ℕ) → List Segment → List Figures → List Passed
-downward u u′ xs fs = down (top u′) (rows rowOf u xs fs)
+unfoldable pub downward : (u u′ : ℕ) → List Pair → List Figures → List Passed
+downward u u′ xs fs = down (top u′) (rows u xs fs)
 
 -- one step: the new figures of all segments
-unfoldable pub stepped : (u u′ : ℕ) → List Segment → List Figures → List Figures
-stepped u u′ xs fs = finish newFigures xs fs (up (downward u u′ xs fs))
+unfoldable pub stepped : (u u′ : ℕ) → List Pair → List Figures → List Figures
+stepped u u′ xs fs = finish xs fs (up (downward u u′ xs fs))

@@ -9,7 +9,7 @@ use Rattle.model.specs.Ranges.{rowSection, outside}
 use Rattle.model.specs.Refusals.{row, Outcome, Finding, test, testEach, outcomeOf}
 use Rattle.model.specs.Load.{rowFault}
 
--- "U at step j is that of the last row starting at or before j": `found` is that of the rows passed so far
+-- "U at step j is that of the last row starting at or before j", as `Flow.lastBegun` finds the flow: `found` is that of the rows passed so far
 unfoldable pub lastStarted : (j found : ℕ) → (starts concentrations : List ℕ) → ℕ
 lastStarted j found [] concentrations = found
 lastStarted j found (start ∷ starts) [] = found

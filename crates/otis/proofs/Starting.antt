@@ -1,5 +1,5 @@
 -- A start's outcome, from what its tests find.
-use mathlib.Core.Path.{_≡_, refl, sym, ap, _∙_}
+use mathlib.Core.Path.{_≡_}
 use mathlib.Core.List.{List, map, _++_}
 use Prim.Native.Nat.{ℕ, _≤_}
 use lib.ListN.{length, getD}
@@ -12,7 +12,8 @@ use Rattle.model.specs.Calls.{riverFault, startTests, startAnswer, startFigures
 use Rattle.terms.specs.declared.Place as Code
 use Rattle.terms.specs.Says.{placeSays}
 use Rattle.otis.specs.declared.Start.the-variants.{Started, Refused}
-use Rattle.terms.specs.Lent.{LongFigures}
+use Rattle.lists.specs.Lent.{plain}
+use Rattle.terms.specs.Lent.{state, LongFigures}
 use Rattle.otis.specs.Outcomes.{StartOutcome}
 use Rattle.model.proofs.Refusals.{all-pass, test-clear}
 use Rattle.calltests.proofs.RiverLaws.{columns-long, figures-long}
@@ -33,16 +34,14 @@ module _ (n : ℕ) (x : Columns) (before : State) (u : ℕ) where
   pub start-accepted : (c z w : List ℕ) → first (startTests n x before u) ≡ passes →
       c ≡ over (tab 0 n (λ i. getD (x .start) i 0)) (before .channel) → z ≡ over (tab 0 n (λ i. getD (x .start) i 0)) (before .storage) →
       w ≡ over (tab 0 n (λ i. getD (x .start) i 0)) (before .sediment) →
-      StartOutcome n x before u (Started (record { upstream = u; steps = 0 })) c z w
+      StartOutcome n x before u (Started (record { upstream = u; steps = 0 })) (state plain c z w u 0)
   unfolding startAnswer startState segmentAt writeFigures
   start-accepted c z w e p q r = record {
     answer = rw e;
-    channel = rw e (p ∙ ap (λ l. over l (before .channel)) (sym (start-list (λ f. f .c))));
-    storage = rw e (q ∙ ap (λ l. over l (before .storage)) (sym (start-list (λ f. f .z))));
-    sediment = rw e (r ∙ ap (λ l. over l (before .sediment)) (sym (start-list (λ f. f .w))));
+    state = rw (e, p, q, r, start-list (λ f. f .c), start-list (λ f. f .z), start-list (λ f. f .w));
   }
 
   pub start-refused : (number : ℕ) (place : Code.Place) → first (startTests n x before u) ≡ fails number (placeSays place) →
-      StartOutcome n x before u (Refused number place) (before .channel) (before .storage) (before .sediment)
+      StartOutcome n x before u (Refused number place) before
   unfolding startAnswer startState
-  start-refused number place e = record { answer = rw e; channel = rw e; storage = rw e; sediment = rw e }
+  start-refused number place e = record { answer = rw e; state = rw e }

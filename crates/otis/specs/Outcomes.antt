@@ -1,25 +1,31 @@
--- The complete outcome of a call that writes: its answer, and the later content of each list that it is lent to write.
+-- The complete outcome of a call that writes: its answer, and the later content of what it is lent to write.
 use mathlib.Core.Path.{_≡_}
 use mathlib.Core.List.{List}
 use Prim.Native.Nat.{ℕ}
-use Rattle.model.specs.State.{Columns, State}
-use Rattle.model.specs.Calls.{startAnswer, startState, Working, stepAnswer, stepState, stepWorking}
+use Rattle.model.specs.State.{NumberSet, Columns, State}
+use Rattle.model.specs.Refusals.{Outcome, accepted, refused}
+use Rattle.model.specs.Calls.{River, startAnswer, startState, Working, stepAnswer, stepState, stepWorking}
+use Rattle.terms.specs.Lent.{state}
 use Rattle.otis.specs.declared.Start.{Start}
 use Rattle.otis.specs.declared.Step.{Step}
 use Rattle.otis.specs.Says.{startSays, stepSays}
 
--- c, z and w are the state's three lists afterwards
-pub record StartOutcome (n : ℕ) (x : Columns) (before : State) (u : ℕ) (r : Start) (c z w : List ℕ) : Type 0 where
-  pub answer : startSays r ≡ startAnswer n x before u
-  pub channel : c ≡ startState n x before u .channel
-  pub storage : z ≡ startState n x before u .storage
-  pub sediment : w ≡ startState n x before u .sediment
+-- a value of an accepted answer, in the place of what was there; after a refusal what was there
+abbrev pub handed : {A B : Type 0} → Outcome A → (A → B) → B → B
+handed (accepted v) value before = value v
+handed (refused number place) value before = before
 
--- the last two are the working lists afterwards
-pub record StepOutcome (n : ℕ) (x : Columns) (before : State) (lent : Working) (u′ M : ℕ) (r : Step) (c z w p′ y′ : List ℕ) : Type 0 where
-  pub answer : stepSays r ≡ stepAnswer n x before lent u′ M
-  pub channel : c ≡ stepState n x before lent u′ M .channel
-  pub storage : z ≡ stepState n x before lent u′ M .storage
-  pub sediment : w ≡ stepState n x before lent u′ M .sediment
-  pub p : p′ ≡ stepWorking n x before lent u′ M .p
-  pub y : y′ ≡ stepWorking n x before lent u′ M .y
+-- the state after an answer: its lists as they are read, U and the count of the answer, or those that it had
+abbrev pub stateAfter : {A : Type 0} → (A → List ℕ) → (channel storage sediment : A) → Outcome River → (upstream steps : ℕ) → State
+stateAfter at channel storage sediment answer upstream steps =
+    state at channel storage sediment (handed answer (λ v. v .upstream) upstream) (handed answer (λ v. v .steps) steps)
+
+pub record StartOutcome (n : ℕ) (x : Columns) (before : State) (u : ℕ) (r : Start) (after : State) : Type 0 where
+  pub answer : startSays r ≡ startAnswer n x before u
+  pub state : after ≡ startState n x before u
+
+pub record StepOutcome (n : ℕ) (old : NumberSet) (new : Columns) (before : State) (lent : Working) (u′ M : ℕ)
+    (r : Step) (after : State) (left : Working) : Type 0 where
+  pub answer : stepSays r ≡ stepAnswer n old new before lent u′ M
+  pub state : after ≡ stepState n old new before lent u′ M
+  pub working : left ≡ stepWorking n old new before lent u′ M

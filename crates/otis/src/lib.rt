@@ -1,4 +1,4 @@
-// The public calls of document 01 on a river that stands in lent lists: start, step and report.
+// The public calls of the documents on a river that stands in lent lists: start, step and report.
 ghost use mathlib.Core.Path.{_≡_};
 ghost use mathlib.Core.List.{[], _∷_};
 ghost use Prim.Native.Nat.{ℕ};
@@ -7,13 +7,15 @@ ghost use Rattle.model.specs.Refusals.{test, first};
 ghost use Rattle.model.specs.Calls.{reportAnswer};
 ghost use Rattle.terms.specs.Says.{findingSays};
 ghost use Rattle.lists.specs.Lent.{entry, exit};
-ghost use Rattle.terms.specs.Lent.{columns, state, working};
-ghost use Rattle.otis.specs.Says.{reportSays};
-ghost use Rattle.otis.specs.Outcomes.{StartOutcome, StepOutcome};
+ghost use Rattle.terms.specs.Lent.{set, columns, state, working};
+ghost use Rattle.otis.specs.Says.{startSays, stepSays, reportSays};
+ghost use Rattle.otis.specs.Outcomes.{stateAfter, StartOutcome, StepOutcome};
 use calltests::limits::HIGHEST;
 use calltests::limits::outside;
 use calltests::segments::SEGMENTS;
 use calltests::segments::or_short;
+use calltests::segments::set_at_fault;
+use calltests::segments::set_short;
 use calltests::start_test;
 use calltests::state_test;
 use terms::Finding;
@@ -83,7 +85,8 @@ impl River {
         u: u32,
     ) -> Start
         ensures { λ r. ⌜ ((upstream steps : ℕ) → StartOutcome n (columns entry e g l a b k ks h m s cl cb kd start)
-            (state entry channel storage sediment upstream steps) u r (exit channel) (exit storage) (exit sediment)) ⌝ }
+            (state entry channel storage sediment upstream steps) u r
+            (stateAfter exit channel storage sediment (startSays r) upstream steps)) ⌝ }
     {
         let found = start_test(
             n,
@@ -121,10 +124,21 @@ impl River {
         }
     }
 
-    // One step from the state's U to U', which is `u`, where fewer than M steps are done; `steps` is M. p and y are working lists.
+    // One step from the state's U to U', which is `u`, where fewer than M steps are done; `steps` is M. p and y are working lists. The ten
+    // lists with 0 are the set of the step's old side, the plain ones that of its new side.
     pub fn step(
         self,
         n: u32,
+        e0: &[u32],
+        g0: &[u32],
+        l0: &[u32],
+        a0: &[u32],
+        b0: &[u32],
+        k0: &[u32],
+        ks0: &[u32],
+        h0: &[u32],
+        m0: &[u32],
+        s0: &[u32],
         e: &[u32],
         g: &[u32],
         l: &[u32],
@@ -147,12 +161,22 @@ impl River {
         u: u32,
         steps: u32,
     ) -> Step
-        ensures { λ r. ⌜ StepOutcome n (columns entry e g l a b k ks h m s cl cb kd start)
-            (state entry channel storage sediment (self .upstream) (self .steps)) (working entry p y) u steps r (exit channel)
-            (exit storage) (exit sediment) (exit p) (exit y) ⌝ }
+        ensures { λ r. ⌜ StepOutcome n (set entry e0 g0 l0 a0 b0 k0 ks0 h0 m0 s0)
+            (columns entry e g l a b k ks h m s cl cb kd start)
+            (state entry channel storage sediment (self .upstream) (self .steps)) (working entry p y) u steps r
+            (stateAfter exit channel storage sediment (stepSays r) (self .upstream) (self .steps)) (working exit p y) ⌝ }
     {
         let count = n as usize;
-        let unfit = or_short(count, p.len(), or_short(count, y.len(), false));
+        let unfit = or_short(
+            count,
+            p.len(),
+            or_short(
+                count,
+                y.len(),
+                set_short(count, e0, g0, l0, a0, b0, k0, ks0, h0, m0, s0),
+            ),
+        );
+        let other = set_at_fault(count, e0, g0, l0, a0, b0, k0, ks0, h0, m0, s0);
         let state = state_test(
             n,
             e,
@@ -173,6 +197,7 @@ impl River {
             &storage[..],
             &sediment[..],
             unfit,
+            other,
             self.upstream,
             self.steps,
             u,
@@ -185,6 +210,16 @@ impl River {
                     count,
                     self.upstream,
                     u,
+                    e0,
+                    g0,
+                    l0,
+                    a0,
+                    b0,
+                    k0,
+                    ks0,
+                    h0,
+                    m0,
+                    s0,
                     e,
                     g,
                     l,
@@ -260,6 +295,7 @@ impl River {
             storage,
             sediment,
             unfit,
+            n as usize,
             self.upstream,
             self.steps,
             0,

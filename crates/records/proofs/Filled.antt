@@ -12,7 +12,7 @@ use Rattle.lists.specs.Lists.{tab, over, anyShorter}
 use Rattle.lists.proofs.Shorter.{neither}
 use Rattle.lists.proofs.Tab.{length-tab, map-tab}
 use Rattle.lists.proofs.Over.{length-over, map-over, filling-turn}
-use Rattle.model.specs.Sheet.{Reach, reachCount, reachOn, reaches, segmentCount}
+use Rattle.model.specs.Sheet.{Reach, reachCount, flowRowCount, reachOn, reaches, segmentCount}
 use Rattle.model.specs.Flow.{courseOf}
 use Rattle.model.specs.Refusals.{Outcome, accepted, refused}
 use Rattle.model.specs.State.{Columns, columnLists}
@@ -63,24 +63,25 @@ module _ (sheet : List ℕ) (before : List Record.Reach) where
       map-over reachSays (tab 0 end (λ j. asRecord (reachOn sheet j))) before
       ∙ rw (map-tab reachSays (λ j. asRecord (reachOn sheet j)) 0 end, length-map before reachSays, e)
 
-module _ (sheet : List ℕ) (records : ℕ) (columns : Columns) where
+module _ (sheet : List ℕ) (row records : ℕ) (columns : Columns) where
   -- an accepted loading has passed test 13: the list has an entry for each reach
-  enough : (v : Loaded) → loadAnswer sheet records columns ≡ accepted v → reachCount sheet ≤ records
+  enough : (v : Loaded) → loadAnswer sheet row records columns ≡ accepted v → reachCount sheet ≤ records
   unfolding loadAnswer loadTests listTests
   enough v e =
-      let passed = accepted-passes (loadTests sheet records columns) (loaded sheet) (rw e tt) in
-      let last = first-both (sheetTests sheet ++ courseTests (segmentCount sheet) (courseOf sheet)) (listTests sheet records columns) passed .1 in
-      let short = anyShorter (segmentCount sheet) (columnLists columns) in
+      let passed = accepted-passes (loadTests sheet row records columns) (loaded sheet) (rw e tt) in
+      let front = sheetTests sheet ++ courseTests (segmentCount sheet) (flowRowCount sheet) (courseOf sheet) in
+      let last = first-both front (listTests sheet row records columns) passed .1 in
+      let others = ltb (flowRowCount sheet) row || anyShorter (segmentCount sheet) (columnLists columns) in
       let few = ltb records (reachCount sheet) in
-      ltb-false records (reachCount sheet) (neither short few (test-clear 13 (short || few) (all-pass (listTests sheet records columns) last .0)) .1)
+      ltb-false records (reachCount sheet) (neither others few (test-clear 13 (others || few) (all-pass (listTests sheet row records columns) last .0)) .1)
 
 -- what a loading fills, by its answer, is what document 01 says
-pub load-records : (sheet : List ℕ) (before : List Reach) (columns : Columns) →
-    filled sheet (fillCount (loadAnswer sheet (length before) columns) (reachCount sheet)) before ≡ loadRecords sheet before columns
+pub load-records : (sheet : List ℕ) (row : ℕ) (before : List Reach) (columns : Columns) →
+    filled sheet (fillCount (loadAnswer sheet row (length before) columns) (reachCount sheet)) before ≡ loadRecords sheet row before columns
 unfolding filled loadRecords reaches
-load-records sheet before columns = go (loadAnswer sheet (length before) columns) refl
+load-records sheet row before columns = go (loadAnswer sheet row (length before) columns) refl
   where
-    go : (o : Outcome Loaded) → loadAnswer sheet (length before) columns ≡ o →
+    go : (o : Outcome Loaded) → loadAnswer sheet row (length before) columns ≡ o →
         over (tab 0 (min (fillCount o (reachCount sheet)) (length before)) (reachOn sheet)) before ≡ recordsAfter o sheet before
-    go (accepted v) e = rw (min-eq-left (enough sheet (length before) columns v e))
+    go (accepted v) e = rw (min-eq-left (enough sheet row (length before) columns v e))
     go (refused number place) e = rw (zero-min (length before))

@@ -1,18 +1,19 @@
--- Laws of reaches, rows and gauges: those of a sheet, entry by entry, and the rule on starts, told by a row and the one before it.
+-- Laws of reaches, rows, gauges and flow rows: those of a sheet, entry by entry, and the rule on starts, told by a row and the one before it.
 use mathlib.Core.Path.{_≡_, refl, sym, _∙_}
 use mathlib.Core.Bool.{false, not, _||_}
 use mathlib.Core.List.{List}
 use Prim.Native.Nat.{ℕ, zero, suc, _-_, _<_, _≤_}
 use native.Mathlib.Omega.{arith}
 use borrow.Author.Tests.{eqb-true, not-false, leb-false, ltb-false}
-use lib.Dec.{eqb, leb, ltb}
+use lib.Dec.{eqb, ltb}
 use lib.ListN.{length, getD}
+use Rattle.lists.specs.Lists.{notRising}
 use Rattle.lists.proofs.Tab.{getD-tab}
 use Rattle.lists.proofs.Shorter.{neither, not-rising}
-use Rattle.model.specs.Ranges.{_to_, outside, concentration, reachSection, rowSection, gaugeSection}
+use Rattle.model.specs.Ranges.{_to_, outside, concentration, flows, reachSection, rowSection, gaugeSection}
 use Rattle.model.specs.Sheet.{recordField, reachCountAt, reachFields, rowCountAt, gaugeCountAt, rowCount, gaugeCount}
-use Rattle.model.specs.Sheet.{rowStarts, rowConcentrations, gauges}
-use Rattle.model.specs.Load.{startsLate, rowFault, gaugeFault}
+use Rattle.model.specs.Sheet.{rowStarts, rowConcentrations, gauges, flowRowCount, flowRowStart, flowRowTop, flowRowStarts, flowRowTops}
+use Rattle.model.specs.Load.{startsLate, rowFault, gaugeFault, flowRowFault}
 use Rattle.sheet.proofs.InRange.{Within, within}
 
 -- a reach's fields
@@ -24,7 +25,7 @@ pub reach-field : (sheet : List ℕ) (i k : ℕ) → k < 16 → getD (reachField
 unfolding reachFields
 reach-field sheet i k h = getD-tab (recordField sheet reachCountAt reachSection i) 16 k 0 h
 
--- a sheet's row j and gauge j
+-- a sheet's row j, gauge j and flow row j
 module _ (sheet : List ℕ) (j : ℕ) where
   pub row-start : j < rowCount sheet → getD (rowStarts sheet) j 0 ≡ recordField sheet (rowCountAt sheet) rowSection j 0
   unfolding rowStarts
@@ -38,6 +39,14 @@ module _ (sheet : List ℕ) (j : ℕ) where
   unfolding gauges
   gauge h = getD-tab _ (gaugeCount sheet) j 0 h
 
+  pub flow-row-start : j < flowRowCount sheet → getD (flowRowStarts sheet) j 0 ≡ flowRowStart sheet j
+  unfolding flowRowStarts
+  flow-row-start h = getD-tab _ (flowRowCount sheet) j 0 h
+
+  pub flow-row-top : j < flowRowCount sheet → getD (flowRowTops sheet) j 0 ≡ flowRowTop sheet j
+  unfolding flowRowTops
+  flow-row-top h = getD-tab _ (flowRowCount sheet) j 0 h
+
 -- the first row
 pub late-first : (starts : List ℕ) (j start : ℕ) → getD starts j 0 ≡ start → j ≡ 0 → not (eqb start 0) ≡ startsLate starts j
 unfolding startsLate
@@ -45,11 +54,10 @@ late-first starts zero start s e = rw (← s)
 late-first starts (suc j) start s e = absurd (omega arith)
 
 -- another row
-pub late-next : (starts : List ℕ) (j before start : ℕ) → getD starts j 0 ≡ start → getD starts (j - 1) 0 ≡ before → 0 < j →
-    leb start before ≡ startsLate starts j
+pub late-next : (starts : List ℕ) (j : ℕ) → 0 < j → notRising starts j ≡ startsLate starts j
 unfolding startsLate
-late-next starts zero before start s b h = absurd (omega arith)
-late-next starts (suc j) before start s b h = rw (not-rising starts (suc j) h, s, b)
+late-next starts zero h = absurd (omega arith)
+late-next starts (suc j) h = refl
 
 -- a row that keeps its rule, of the sheet's lists or of lent ones
 pub record RowRight (M : ℕ) (starts concentrations : List ℕ) (j : ℕ) : Type 0 where
@@ -66,7 +74,7 @@ row-right M starts concentrations j e =
     let one = neither (startsLate starts j) _ (two .0) in
     record {
       first = λ z. eqb-true _ _ (not-false _ (late-first starts j _ refl z ∙ one .0));
-      rises = λ h. leb-false _ _ (late-next starts j _ _ refl refl h ∙ one .0);
+      rises = λ h. leb-false _ _ (sym (not-rising starts j h) ∙ late-next starts j h ∙ one .0);
       start = ltb-false _ _ (one .1);
       figure = within _ _ (two .1);
     }
@@ -81,3 +89,16 @@ unfolding gaugeFault
 gauge-right n gauges j e =
     let two = neither (outside (1 to n) (getD gauges j 0)) _ e in
     record { segment = within _ _ (two .0); rises = λ h. leb-false _ _ (sym (not-rising gauges j h) ∙ two .1) }
+
+-- a flow row that keeps its rule
+pub record FlowRowRight (M : ℕ) (starts tops : List ℕ) (j : ℕ) : Type 0 where
+  pub start : Within (1 to M) (getD starts j 0)
+  pub rises : 0 < j → getD starts (j - 1) 0 < getD starts j 0
+  pub top : Within flows (getD tops j 0)
+
+pub flow-row-right : (M : ℕ) (starts tops : List ℕ) (j : ℕ) → flowRowFault M starts tops j ≡ false → FlowRowRight M starts tops j
+unfolding flowRowFault
+flow-row-right M starts tops j e =
+    let two = neither (outside (1 to M) (getD starts j 0) || notRising starts j) _ e in
+    let one = neither (outside (1 to M) (getD starts j 0)) _ (two .0) in
+    record { start = within _ _ (one .0); rises = λ h. leb-false _ _ (sym (not-rising starts j h) ∙ one .1); top = within _ _ (two .1) }

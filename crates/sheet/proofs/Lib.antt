@@ -2,8 +2,10 @@ pub mod Reading
 pub mod Tables
 pub mod Tests
 pub mod Marked
+pub mod Sections
 pub mod Walking
 pub mod InRange
 pub mod Segments
 pub mod Entries
+pub mod Flows
 pub mod Passed

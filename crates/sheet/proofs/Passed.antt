@@ -1,26 +1,26 @@
--- What is known of a sheet that passed tests 1 to 9.
+-- What is known of a sheet that passed tests 1 to 9 and 16.
 use mathlib.Core.Path.{_≡_}
-use mathlib.Core.Bool.{true, false}
+use mathlib.Core.Bool.{Bool, true, false, cond}
 use mathlib.Core.List.{List, [], _∷_}
-use Prim.Native.Nat.{ℕ, _+_, _*_, _<_, _≤_}
+use Prim.Native.Nat.{ℕ, _<_, _≤_, zero-le}
 use native.Mathlib.Nat.{le-antisymm}
 use native.Mathlib.Omega.{arith}
-use borrow.Author.Tests.{not-false, ltb-false}
+use borrow.Author.Tests.{ltb-false}
 use lib.Dec.{lit<}
 use lib.ListN.{length, getD}
-use Rattle.model.specs.Ranges.{_to_, anyOutside, headerRanges, reachRanges, reachSection, rowSection, gaugeSection}
+use Rattle.model.specs.Ranges.{_to_, anyOutside, headerRanges, reachRanges, reachSection, rowSection, gaugeSection, flowSection}
 use Rattle.model.specs.Ranges.{concentration, flows, areas, rates, mostKd, mostSteps, mostSegments}
 use Rattle.model.specs.Sheet as Sheet
-use Rattle.model.specs.Sheet.{Reach, mark, startsWith, header, reachCountAt, reachCount, rowCount, gaugeCount, rowCountAt, gaugeCountAt, sectionEnd, sheetEnd, reachFields}
+use Rattle.model.specs.Sheet.{Reach, hasFlowRows, sections, field, header, reachCountAt, reachCount, rowCount, gaugeCount, flowRowCount, rowCountAt, gaugeCountAt, flowRowCountAt, sectionEnd, sheetEnd, reachFields}
 use Rattle.model.specs.Sheet.{reachOf, reachOn, reaches, segmentCount}
-use Rattle.model.specs.Sheet.{stepsM, rowStarts, rowConcentrations, gauges}
+use Rattle.model.specs.Sheet.{stepsM, rowStarts, rowConcentrations, gauges, flowRowStarts, flowRowTops}
 use Rattle.model.specs.Refusals.{passes, reach, row, first}
-use Rattle.model.specs.Load.{unmarked, rowFault, gaugeFault, sheetTests}
+use Rattle.model.specs.Load.{unmarked, walk, rowFault, gaugeFault, flowRowFault, sheetTests}
 use Rattle.sheet.proofs.Tests.{AllPass, all-pass, test-pass, each-pass}
 use Rattle.sheet.proofs.InRange.{Within, all-within}
 use Rattle.sheet.proofs.Walking.{walk-pass}
 use Rattle.sheet.proofs.Segments.{segments-first}
-use Rattle.sheet.proofs.Entries.{RowRight, row-right, GaugeRight, gauge-right}
+use Rattle.sheet.proofs.Entries.{RowRight, row-right, GaugeRight, gauge-right, FlowRowRight, flow-row-right}
 
 -- a reach whose fields are all in range
 pub record ReachWithin (r : Reach) : Type 0 where
@@ -67,10 +67,11 @@ reach-within sheet i e =
 
 -- a sheet that passed
 pub record Passed (sheet : List ℕ) : Type 0 where
-  pub marked : startsWith mark sheet ≡ true
+  pub marked : unmarked sheet ≡ false
   pub reachCounts : Within (reachSection .counts) (reachCount sheet)
   pub rowCounts : Within (rowSection .counts) (rowCount sheet)
   pub gaugeCounts : Within (gaugeSection .counts) (gaugeCount sheet)
+  pub flowRowCounts : flowRowCount sheet ≤ flowSection .counts .high
   pub ends : length sheet ≡ sheetEnd sheet
   pub dt : Within (1 to 3600) (Sheet.dt sheet)
   pub dx : Within (10 to 10000) (Sheet.dx sheet)
@@ -81,6 +82,7 @@ pub record Passed (sheet : List ℕ) : Type 0 where
   pub segments : Within (1 to mostSegments) (segmentCount sheet)
   pub row : (j : ℕ) → j < rowCount sheet → RowRight (stepsM sheet) (rowStarts sheet) (rowConcentrations sheet) j
   pub gauge : (j : ℕ) → j < gaugeCount sheet → GaugeRight (segmentCount sheet) (gauges sheet) j
+  pub flowRow : (j : ℕ) → j < flowRowCount sheet → FlowRowRight (stepsM sheet) (flowRowStarts sheet) (flowRowTops sheet) j
 
 header-field : (sheet : List ℕ) → anyOutside (headerRanges (stepsM sheet)) (header sheet) ≡ false → (k : ℕ) → k < 5 →
     Within (getD (headerRanges (stepsM sheet)) k (0 to 0)) (getD (header sheet) k 0)
@@ -91,24 +93,34 @@ some-segment : (sheet : List ℕ) → 0 < reachCount sheet → ReachWithin (reac
 unfolding segmentCount reaches
 some-segment sheet h r = omega (arith, segments-first (reachOn sheet) (reachCount sheet) h, r .segments .low)
 
+-- the walk's end behind the last gauge, by whether flow rows follow
+last-section : (sheet : List ℕ) (at : ℕ) (more : Bool) → walk sheet at (cond more (flowSection ∷ []) []) ≡ passes → at ≤ length sheet →
+    (cond more (sectionEnd sheet at flowSection) at ≤ length sheet) × (cond more (field sheet at) 0 ≤ flowSection .counts .high)
+last-section sheet at true e h = let w = walk-pass sheet at flowSection [] e in (w .0 .ends, w .0 .counts .high)
+last-section sheet at false e h = (h, zero-le)
+
 pub passed : (sheet : List ℕ) → first (sheetTests sheet) ≡ passes → Passed sheet
-unfolding sheetTests unmarked rowCountAt gaugeCountAt sheetEnd
+unfolding sheetTests sections rowCountAt gaugeCountAt flowRowCountAt sheetEnd flowRowCount
 passed sheet e =
     let t : AllPass (sheetTests sheet) = all-pass (sheetTests sheet) e in
-    let rs = walk-pass sheet reachCountAt reachSection (rowSection ∷ gaugeSection ∷ []) (t .1 .0) in
-    let bs = walk-pass sheet (rowCountAt sheet) rowSection (gaugeSection ∷ []) (rs .1) in
-    let gs = walk-pass sheet (gaugeCountAt sheet) gaugeSection [] (bs .1) in
+    let more = cond (hasFlowRows sheet) (flowSection ∷ []) [] in
+    let rs = walk-pass sheet reachCountAt reachSection (rowSection ∷ gaugeSection ∷ more) (t .1 .0) in
+    let bs = walk-pass sheet (rowCountAt sheet) rowSection (gaugeSection ∷ more) (rs .1) in
+    let gs = walk-pass sheet (gaugeCountAt sheet) gaugeSection more (bs .1) in
+    let fs = last-section sheet (flowRowCountAt sheet) (hasFlowRows sheet) (gs .1) (gs .0 .ends) in
     let last : length sheet ≤ sheetEnd sheet = ltb-false _ _ (test-pass 4 _ (t .1 .1 .0)) in
     let head = header-field sheet (test-pass 5 _ (t .1 .1 .1 .0)) in
     let inside : (i : ℕ) → i < reachCount sheet → ReachWithin (reachOn sheet i) =
     λ i h. reach-within sheet i (each-pass 6 reach _ (λ i. anyOutside reachRanges (reachFields sheet i)) (t .1 .1 .1 .1 .0) i h) in
     let rows = rowFault (stepsM sheet) (rowStarts sheet) (rowConcentrations sheet) in
+    let flowRows = flowRowFault (stepsM sheet) (flowRowStarts sheet) (flowRowTops sheet) in
     record {
-      marked = not-false _ (test-pass 1 _ (t .0));
+      marked = test-pass 1 _ (t .0);
       reachCounts = rs .0 .counts;
       rowCounts = bs .0 .counts;
       gaugeCounts = gs .0 .counts;
-      ends = le-antisymm last (gs .0 .ends);
+      flowRowCounts = fs .1;
+      ends = le-antisymm last (fs .0);
       dt = head 0 (lit< tt);
       dx = head 1 (lit< tt);
       steps = head 2 (lit< tt);
@@ -122,9 +134,5 @@ passed sheet e =
           };
       row = λ j h. row-right _ _ _ j (each-pass 8 row _ rows (t .1 .1 .1 .1 .1 .1 .0) j h);
       gauge = λ j h. gauge-right _ _ j (each-pass 9 row _ (gaugeFault (segmentCount sheet) (gauges sheet)) (t .1 .1 .1 .1 .1 .1 .1 .0) j h);
+      flowRow = λ j h. flow-row-right _ _ _ j (each-pass 16 row _ flowRows (t .1 .1 .1 .1 .1 .1 .1 .1 .0) j h);
     }
-
--- its length, which leaves room for each of its fields
-pub size : (sheet : List ℕ) → Passed sheet → length sheet ≡ 36 + 64 * reachCount sheet + 8 * rowCount sheet + 4 * gaugeCount sheet
-unfolding sheetEnd gaugeCountAt rowCountAt sectionEnd
-size sheet p = omega (arith, p .ends)

@@ -1,19 +1,24 @@
-// Tests 5, 6, 8 and 9: fields outside their ranges, and rows and gauges that break their rules.
+// Tests 5, 6, 8, 9 and 16: fields outside their ranges, and rows and gauges that break their rules.
 ghost use mathlib.Core.Path.{_≡_};
 ghost use mathlib.Core.List.{List};
-ghost use Prim.Native.Nat.{ℕ, _<_};
+ghost use Prim.Native.Nat.{ℕ, _-_, _<_};
 ghost use lib.ListN.{getD};
 ghost use Rattle.model.specs.Ranges.{_to_, anyOutside, headerRanges, reachRanges, reachSection};
-ghost use Rattle.model.specs.Sheet.{header, stepsM, reachCount, rowCount, gaugeCount, reachFields, rowStarts, rowConcentrations, gauges};
+ghost use Rattle.lists.specs.Lists.{notRising};
+ghost use Rattle.model.specs.Sheet.{header, stepsM, reachCount, rowCount, gaugeCount, flowRowCount, reachFields};
+ghost use Rattle.model.specs.Sheet.{rowStarts, rowConcentrations, gauges, flowRowStarts, flowRowTops};
 ghost use Rattle.model.specs.Refusals as Document;
 ghost use Rattle.model.specs.Refusals.{testEach};
-ghost use Rattle.model.specs.Load.{startsLate, rowFault, gaugeFault};
+ghost use Rattle.model.specs.Load.{startsLate, rowFault, gaugeFault, flowRowFault};
 ghost use Rattle.terms.specs.Says.{findingSays};
 ghost use Rattle.lists.specs.Lent.{entry};
 ghost use Rattle.sheet.specs.Tables.{rangeSays};
 ghost use Rattle.sheet.specs.Entries.{IsRow, IsGauge};
 use crate::fields::dt;
 use crate::fields::dx;
+use crate::fields::flow_row_count;
+use crate::fields::flow_row_start;
+use crate::fields::flow_row_top;
 use crate::fields::gauge;
 use crate::fields::gauge_count;
 use crate::fields::interval;
@@ -110,6 +115,16 @@ pub fn reach_test(sheet: &[u8]) -> Finding
     Finding::Passes
 }
 
+// "strictly rising": an entry that is not above the one before it.
+fn not_rising(j: u32, before: u32, value: u32) -> bool
+    ensures { λ r. ⌜ ((list : List ℕ) → (0 < j → getD list (j - 1) 0 ≡ before) → getD list j 0 ≡ value → r ≡ notRising list j) ⌝ }
+{
+    if j == 0 {
+        return false;
+    }
+    value <= before
+}
+
 // The first row starts at 0, another behind the row before it.
 fn starts_late(j: u32, before: u32, start: u32) -> bool
     ensures { λ r. ⌜ ((starts concentrations : List ℕ) (c : ℕ) →
@@ -118,7 +133,7 @@ fn starts_late(j: u32, before: u32, start: u32) -> bool
     if j == 0 {
         return start != 0;
     }
-    start <= before
+    not_rising(j, before, start)
 }
 
 // Row j breaks its rule on starts, which rise to at most M, or its concentration is outside its range.
@@ -153,11 +168,7 @@ pub fn row_test(sheet: &[u8]) -> Finding
 pub fn gauge_fault(segments: usize, j: u32, before: u32, gauge: u32) -> bool
     ensures { λ r. ⌜ ((gauges : List ℕ) → IsGauge gauges j before gauge → r ≡ gaugeFault segments gauges j) ⌝ }
 {
-    let outside = (gauge < 1) | (segments < (gauge as usize));
-    if j == 0 {
-        return outside;
-    }
-    outside | (gauge <= before)
+    (gauge < 1) | (segments < (gauge as usize)) | not_rising(j, before, gauge)
 }
 
 // 9. "A gauge breaks its rule (row)."
@@ -173,6 +184,40 @@ pub fn gauge_test(sheet: &[u8], segments: usize) -> Finding
             return Finding::Fails(9, Place::Row(j + 1));
         }
         before = segment;
+        j += 1;
+    }
+    Finding::Passes
+}
+
+// Flow row j starts outside 1 to M or not behind the row before it, or its flow is outside its range.
+fn flow_row_fault(steps: u32, j: u32, before: u32, start: u32, top: u32) -> bool
+    ensures { λ r. ⌜ ((starts tops : List ℕ) → IsRow starts tops j before start top → r ≡ flowRowFault steps starts tops j) ⌝ }
+{
+    let late = outside(
+        Range {
+            low: 1,
+            high: steps,
+        },
+        start,
+    );
+    late | not_rising(j, before, start) | outside(FLOW, top)
+}
+
+// 16. "a flow row breaks its rule (row)".
+pub fn flow_row_test(sheet: &[u8]) -> Finding
+    ensures { λ r. let s = entry sheet in ⌜ findingSays r ≡ testEach 16 Document.row (flowRowCount s)
+        (flowRowFault (stepsM s) (flowRowStarts s) (flowRowTops s)) ⌝ }
+{
+    let count = flow_row_count(sheet);
+    let most = steps(sheet);
+    let mut before: u32 = 0;
+    let mut j: u32 = 0;
+    while j < count {
+        let start = flow_row_start(sheet, j as usize);
+        if flow_row_fault(most, j, before, start, flow_row_top(sheet, j as usize)) {
+            return Finding::Fails(16, Place::Row(j + 1));
+        }
+        before = start;
         j += 1;
     }
     Finding::Passes

@@ -1,8 +1,10 @@
-// A sheet's fields, read where document 01 puts them. Bytes past the end count as 0, so that every reading is defined for every sheet.
+// A sheet's fields, read where the documents put them. Bytes past the end count as 0, so that every reading is defined for every sheet.
 ghost use mathlib.Core.Path.{_≡_};
 ghost use Prim.Native.Nat.{_+_, _*_, _^_, _<_};
 ghost use lib.ListN.{getD};
 ghost use Rattle.model.specs.Ranges.{reachSection, rowSection, gaugeSection};
+ghost use Rattle.model.specs.Sheet.{flowRowCountAt, flowRowCount, flowRowsAt, flowRowStart, flowRowTop};
+ghost use Rattle.model.specs.Flow.{topOf, flowInForce};
 ghost use Rattle.model.specs.Sheet.{field, headerField, dt, dx, stepsM, interval, topFlow, recordField, reachOn, segmentCount};
 ghost use Rattle.model.specs.Sheet.{reachCountAt, rowCountAt, gaugeCountAt, sheetEnd, reachCount, rowCount, gaugeCount, rowsAt, gaugesAt};
 ghost use Rattle.terms.specs.Says.{reachSays};
@@ -13,6 +15,8 @@ use crate::layout::SIZE;
 use crate::layout::product;
 use crate::layout::section_end;
 use crate::layout::sum;
+use crate::marks::has_flow_rows;
+use crate::ranges::FLOW_ROWS;
 use crate::ranges::GAUGES;
 use crate::ranges::REACHES;
 use crate::ranges::ROWS;
@@ -94,7 +98,7 @@ pub fn top_flow(sheet: &[u8]) -> u32
     header_field(sheet, 4)
 }
 
-// Where the counts of rows and gauges stand, and where the sheet ends behind its last gauge: all far below the highest usize.
+// Where the counts of rows, gauges and flow rows stand, and where the sheet ends: all far below the highest usize.
 pub fn row_count_at(sheet: &[u8]) -> usize
     ensures { λ r. ⌜ (r ≡ rowCountAt (entry sheet)) × (r < 2 ^ 40) ⌝ }
 {
@@ -107,10 +111,21 @@ pub fn gauge_count_at(sheet: &[u8]) -> usize
     section_end(sheet, row_count_at(sheet), ROWS)
 }
 
+// Behind the last gauge, whether flow rows follow or not.
+fn flow_row_count_at(sheet: &[u8]) -> usize
+    ensures { λ r. ⌜ (r ≡ flowRowCountAt (entry sheet)) × (r < 2 ^ 42) ⌝ }
+{
+    section_end(sheet, gauge_count_at(sheet), GAUGES)
+}
+
 pub fn sheet_end(sheet: &[u8]) -> usize
     ensures { λ r. ⌜ r ≡ sheetEnd (entry sheet) ⌝ }
 {
-    section_end(sheet, gauge_count_at(sheet), GAUGES)
+    let at = flow_row_count_at(sheet);
+    if has_flow_rows(sheet) {
+        return section_end(sheet, at, FLOW_ROWS);
+    }
+    at
 }
 
 pub fn reach_count(sheet: &[u8]) -> u32
@@ -131,6 +146,16 @@ pub fn gauge_count(sheet: &[u8]) -> u32
     field(sheet, gauge_count_at(sheet))
 }
 
+// 0 on a sheet without flow rows.
+pub fn flow_row_count(sheet: &[u8]) -> u32
+    ensures { λ r. ⌜ r ≡ flowRowCount (entry sheet) ⌝ }
+{
+    if has_flow_rows(sheet) {
+        return field(sheet, flow_row_count_at(sheet));
+    }
+    0
+}
+
 // Where the rows and the gauges begin: the first byte behind their count.
 pub fn rows_at(sheet: &[u8]) -> usize
     ensures { λ r. ⌜ r ≡ rowsAt (entry sheet) ⌝ }
@@ -142,6 +167,16 @@ pub fn gauges_at(sheet: &[u8]) -> usize
     ensures { λ r. ⌜ r ≡ gaugesAt (entry sheet) ⌝ }
 {
     gauge_count_at(sheet) + SIZE
+}
+
+// 0 on a sheet without flow rows.
+pub fn flow_rows_at(sheet: &[u8]) -> usize
+    ensures { λ r. ⌜ r ≡ flowRowsAt (entry sheet) ⌝ }
+{
+    if has_flow_rows(sheet) {
+        return flow_row_count_at(sheet) + SIZE;
+    }
+    0
 }
 
 // Field k of reach i; reaches, rows and gauges count from 0 here.
@@ -191,6 +226,44 @@ pub fn gauge(sheet: &[u8], j: usize) -> u32
     ensures { λ r. ⌜ r ≡ recordField (entry sheet) (gaugeCountAt (entry sheet)) gaugeSection j 0 ⌝ }
 {
     record_field(sheet, gauge_count_at(sheet), GAUGES, j, 0)
+}
+
+// Flow row r, which counts from 0 here.
+pub fn flow_row_start(sheet: &[u8], r: usize) -> u32
+    ensures { λ v. ⌜ v ≡ flowRowStart (entry sheet) r ⌝ }
+{
+    record_field(sheet, flow_row_count_at(sheet), FLOW_ROWS, r, 0)
+}
+
+pub fn flow_row_top(sheet: &[u8], r: usize) -> u32
+    ensures { λ v. ⌜ v ≡ flowRowTop (entry sheet) r ⌝ }
+{
+    record_field(sheet, flow_row_count_at(sheet), FLOW_ROWS, r, 1)
+}
+
+// Flow r at the top, "a flow row's number (0 for the top flow ..)".
+pub fn top_of(sheet: &[u8], r: u32) -> u32
+    ensures { λ v. ⌜ v ≡ topOf (entry sheet) r ⌝ }
+{
+    if r == 0 {
+        return top_flow(sheet);
+    }
+    flow_row_top(sheet, r as usize - 1)
+}
+
+// The number of the flow in force at step j: the last row that starts at or before it, 0 where none does. Of a sheet that no loading accepts
+// it is that of the rows that its count names, and bytes past the end count as 0.
+pub fn flow_in_force(sheet: &[u8], j: u32) -> u32
+    ensures { λ v. ⌜ v ≡ flowInForce (entry sheet) j ⌝ }
+{
+    let mut r = flow_row_count(sheet);
+    while r > 0 {
+        if flow_row_start(sheet, r as usize - 1) <= j {
+            return r;
+        }
+        r -= 1;
+    }
+    0
 }
 
 // The segments of all reaches together. A reach past the sheet's end has none, so the loop may stop there.

@@ -5,6 +5,7 @@ ghost use Rattle.model.specs.Sheet.{sectionEnd};
 ghost use Rattle.lists.specs.Lent.{entry};
 ghost use Rattle.sheet.specs.Tables.{sectionSays};
 use crate::fields::field;
+use crate::ranges::FLOW_ROWS;
 use crate::ranges::GAUGES;
 use crate::ranges::REACHES;
 use crate::ranges::ROWS;
@@ -21,7 +22,8 @@ pub const REACH_COUNT_AT: usize = SIZE + SIZE * HEADER_WIDTH;
 pub const LONGEST: usize = REACH_COUNT_AT
     + SIZE * (1 + (REACHES.width * REACHES.counts.high) as usize)
     + SIZE * (1 + (ROWS.width * ROWS.counts.high) as usize)
-    + SIZE * (1 + (GAUGES.width * GAUGES.counts.high) as usize);
+    + SIZE * (1 + (GAUGES.width * GAUGES.counts.high) as usize)
+    + SIZE * (1 + (FLOW_ROWS.width * FLOW_ROWS.counts.high) as usize);
 
 // As far as a position can be.
 const FAR: usize = usize::MAX;

@@ -1,4 +1,4 @@
-// The river sheet: its fields, and tests 1 to 9 of document 01 on any bytes.
+// The river sheet: its fields, and tests 1 to 9 and 16 of the documents on any bytes.
 ghost use mathlib.Core.Path.{_≡_};
 ghost use lib.ListN.{getD};
 ghost use Rattle.model.specs.Refusals.{passes, test, first};
@@ -9,10 +9,12 @@ ghost use Rattle.lists.specs.Lent.{entry};
 pub mod faults;
 pub mod fields;
 mod layout;
+pub mod marks;
 pub mod ranges;
 pub mod rows;
 mod walks;
 
+use faults::flow_row_test;
 use faults::gauge_test;
 use faults::header_fault;
 use faults::reach_test;
@@ -20,10 +22,10 @@ use faults::row_test;
 use fields::segment_count;
 use fields::sheet_end;
 pub use layout::LONGEST;
+use marks::unmarked;
 use ranges::SEGMENTS;
 use terms::Finding;
 use terms::Place;
-use walks::unmarked;
 use walks::walk;
 
 // What a test of this number finds, where its place is nothing.
@@ -36,7 +38,7 @@ fn finding(number: u32, fault: bool) -> Finding
     Finding::Passes
 }
 
-// "Tests run in the order of their numbers", 2 and 3 on one walk: what the k-th of the eight finds, from 0. Behind them nothing is at fault.
+// "Tests run in the order of their numbers", 2 and 3 on one walk, "16 .. after 9": what the k-th of the nine finds, from 0. Behind them nothing is at fault.
 fn kth_test(sheet: &[u8], k: u32) -> Finding
     ensures { λ r. ⌜ findingSays r ≡ getD (sheetTests (entry sheet)) k passes ⌝ }
 {
@@ -49,16 +51,17 @@ fn kth_test(sheet: &[u8], k: u32) -> Finding
         5 => finding(7, (SEGMENTS.high as usize) < segment_count(sheet)),
         6 => row_test(sheet),
         7 => gauge_test(sheet, segment_count(sheet)),
+        8 => flow_row_test(sheet),
         _ => Finding::Passes,
     }
 }
 
-// Tests 1 to 9: the first that fails decides.
+// Tests 1 to 9 and then 16: the first that fails decides.
 pub fn sheet_test(sheet: &[u8]) -> Finding
     ensures { λ r. ⌜ findingSays r ≡ first (sheetTests (entry sheet)) ⌝ }
 {
     let mut k: u32 = 0;
-    while k < 8 {
+    while k < 9 {
         if let Finding::Fails(number, place) = kth_test(sheet, k) {
             return Finding::Fails(number, place);
         }

@@ -1,4 +1,4 @@
-// Document 01, "The river sheet": the range of every field and count, each number written once.
+// Document 01, "The river sheet", with the sections of document 02: the range of every field and count, each number written once.
 ghost use mathlib.Core.Path.{_≡_};
 ghost use Rattle.model.specs.Ranges.{outside};
 ghost use Rattle.sheet.specs.Tables.{rangeSays};
@@ -89,6 +89,11 @@ pub const ROWS: Section = Section {
 pub const GAUGES: Section = Section {
     counts: Range { low: 1, high: 32 },
     width: 1,
+};
+
+pub const FLOW_ROWS: Section = Section {
+    counts: Range { low: 1, high: 64 },
+    width: 2,
 };
 
 // x is outside its range.

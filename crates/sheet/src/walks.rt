@@ -1,17 +1,18 @@
-// Tests 1 to 3: the mark, and one walk from the front, section by section.
+// Tests 2 and 3: one walk from the front, section by section.
 ghost use mathlib.Core.Path.{_≡_};
 ghost use Prim.Native.Nat.{_<_, _≤_};
 ghost use lib.ListN.{length, getD};
-ghost use Rattle.model.specs.Ranges.{_to_, sections};
-ghost use Rattle.model.specs.Sheet.{reachCountAt};
-ghost use Rattle.model.specs.Load.{unmarked, walk};
+ghost use Rattle.model.specs.Sheet.{sections, reachCountAt};
+ghost use Rattle.model.specs.Load.{walk};
 ghost use Rattle.terms.specs.Says.{findingSays};
 ghost use Rattle.lists.specs.Lent.{entry};
-ghost use Rattle.sheet.specs.Tables.{sectionSays};
+ghost use Rattle.sheet.specs.Tables.{sectionSays, allSections, noSection};
 use crate::fields::field;
 use crate::layout::REACH_COUNT_AT;
 use crate::layout::SIZE;
 use crate::layout::section_end;
+use crate::marks::has_flow_rows;
+use crate::ranges::FLOW_ROWS;
 use crate::ranges::GAUGES;
 use crate::ranges::REACHES;
 use crate::ranges::ROWS;
@@ -20,40 +21,34 @@ use crate::ranges::outside;
 use terms::Finding;
 use terms::Place;
 
-// 1. "Fewer than four bytes, or another mark."
-pub fn unmarked(sheet: &[u8]) -> bool
-    ensures { λ r. ⌜ r ≡ unmarked (entry sheet) ⌝ }
-{
-    let mark = b"OTR1";
-    let mut i: usize = 0;
-    while i < mark.len() {
-        if sheet.len() <= i {
-            return true;
-        }
-        if sheet[i] != mark[i] {
-            return true;
-        }
-        i += 1;
-    }
-    false
-}
-
-const SECTIONS: [Section; 3] = [REACHES, ROWS, GAUGES];
+// The sections behind the header, in the sheet's order; the last one stands on a sheet with flow rows alone.
+const SECTIONS: [Section; 4] = [REACHES, ROWS, GAUGES, FLOW_ROWS];
 
 fn section_of(k: usize) -> Section
-    requires { ⌜ k < length sections ⌝ }
-    ensures { λ r. ⌜ (sectionSays r ≡ getD sections k (record { counts = 0 to 0; width = 0 })) × (r .width ≤ 16) ⌝ }
+    requires { ⌜ k < length allSections ⌝ }
+    ensures { λ r. ⌜ (sectionSays r ≡ getD allSections k noSection) × (r .width ≤ 16) ⌝ }
 {
     SECTIONS[k]
 }
 
+// How many of them this sheet has.
+fn section_count(sheet: &[u8]) -> usize
+    ensures { λ r. ⌜ r ≡ length (sections (entry sheet)) ⌝ }
+{
+    if has_flow_rows(sheet) {
+        return SECTIONS.len();
+    }
+    SECTIONS.len() - 1
+}
+
 // 2 and 3, "the one met first decides".
 pub fn walk(sheet: &[u8]) -> Finding
-    ensures { λ r. ⌜ findingSays r ≡ walk (entry sheet) reachCountAt sections ⌝ }
+    ensures { λ r. ⌜ findingSays r ≡ walk (entry sheet) reachCountAt (sections (entry sheet)) ⌝ }
 {
+    let count = section_count(sheet);
     let mut at: usize = REACH_COUNT_AT;
     let mut k: usize = 0;
-    while k < SECTIONS.len() {
+    while k < count {
         if sheet.len() < at + SIZE {
             return Finding::Fails(2, Place::Nothing);
         }

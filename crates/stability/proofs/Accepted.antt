@@ -1,4 +1,4 @@
--- A segment that a step accepts, for two sets of numbers: the bounds of its right sides, quotients and new figures, and its fit row.
+-- A segment that a step accepts: the bounds of its right sides, quotients and new figures, and its fit row.
 use mathlib.Core.List.{List, [], _∷_}
 use Prim.Native.Nat.{ℕ, _+_, _-_, _*_, _<_, _≤_, zero-le}
 use native.Mathlib.Nat.{mul-le-mul-left, mul-le-mul-right, le-of-mul-le-mul-left, min-le-right}
@@ -7,9 +7,8 @@ use Rattle.rounding.specs.Nearest.{S, nearest}
 use Rattle.rounding.proofs.Laws.{Rounds, rounds, by, nearest-le}
 use Rattle.model.specs.Ranges.{highest}
 use Rattle.model.specs.HalfStep.{Numbers}
-use Rattle.model.specs.Equations.{Figures, sumT, sumV}
-use Rattle.model.specs.Sweep.{F, Row, rows, below, clamp, finish}
-use Rattle.model.specs.TwoSets.{Pair, pairChannel, pairStorage, pairSediment, pairP, pairN, pairRow, pairFigures, pairStepped}
+use Rattle.model.specs.Equations.{Figures, Pair, sumT, sumV, channelRight, storageRight, sedimentRight}
+use Rattle.model.specs.Sweep.{P, N, F, R, rowOf, rows, below, clamp, newStorage, newSediment, newFigures, finish, stepped}
 use Rattle.stability.specs.Accepted.{Accepted, AtMost}
 use Rattle.stability.specs.Stable.{Fit}
 
@@ -21,7 +20,7 @@ pub data All {A : Type 0} (P : A → Type 0) : List A → Type 0 where
 -- ---- the three right sides
 
 module _ (x : Pair) (B : ℕ) (f : Figures) (most : AtMost B f) where
-  pub channel-most : (above below : ℕ) → sumT (x .old) ≤ S → x .cl ≤ B → above ≤ B → below ≤ B → pairChannel x above below f ≤ (S + x .new .l) * B
+  pub channel-most : (above below : ℕ) → sumT (x .old) ≤ S → x .cl ≤ B → above ≤ B → below ≤ B → channelRight x above below f ≤ (S + x .new .l) * B
   channel-most above below t l ha hb =
       let sum : S - sumT (x .old) + x .old .e + x .old .g + x .old .a + x .old .s + (x .old .l + x .new .l) ≤ S + x .new .l = omega arith in
       omega (
@@ -35,7 +34,7 @@ module _ (x : Pair) (B : ℕ) (f : Figures) (most : AtMost B f) where
         mul-le-mul-right B sum,
       )
 
-  pub storage-most : sumV (x .old) ≤ S → x .cb ≤ B → pairStorage x f ≤ (S + x .new .ks + x .new .m) * B
+  pub storage-most : sumV (x .old) ≤ S → x .cb ≤ B → storageRight x f ≤ (S + x .new .ks + x .new .m) * B
   storage-most v b =
       let sum : S - sumV (x .old) + x .old .b + (x .old .m + x .new .m) ≤ S + x .new .ks + x .new .m = omega arith in
       omega (
@@ -46,7 +45,7 @@ module _ (x : Pair) (B : ℕ) (f : Figures) (most : AtMost B f) where
         mul-le-mul-right B sum,
       )
 
-  pub sediment-most : x .old .h ≤ S → pairSediment x f ≤ S * B
+  pub sediment-most : x .old .h ≤ S → sedimentRight x f ≤ S * B
   sediment-most h =
       let sum : S - x .old .h + x .old .h ≤ S = omega arith in
       omega (arith, mul-le-mul-left (S - x .old .h) (most .w), mul-le-mul-left (x .old .h) (most .c), mul-le-mul-right B sum)
@@ -74,27 +73,27 @@ F-most n = omega (arith, storage-quotient n, sediment-quotient n)
 -- ---- P, N and the new figures
 
 module _ (x : Pair) (f : Figures) (ok : Accepted x) (most : AtMost highest f) where
-  pub P-most : pairP x f ≤ highest
-  unfolding pairP
+  pub P-most : P x f ≤ highest
+  unfolding P
   P-most =
-      nearest-le (pairStorage x f) (S + sumV (x .new)) highest (omega arith)
+      nearest-le (storageRight x f) (S + sumV (x .new)) highest (omega arith)
       (omega (arith, storage-most x highest f most (ok .old .v) (ok .cb)))
 
-  pub N-most : pairN x f ≤ highest
-  unfolding pairN
+  pub N-most : N x f ≤ highest
+  unfolding N
   N-most =
-      nearest-le (pairSediment x f) (S + x .new .h) highest (omega arith)
+      nearest-le (sedimentRight x f) (S + x .new .h) highest (omega arith)
       (omega (arith, sediment-most x highest f most (ok .old .h)))
 
-  pub figures-most : (c′ : ℕ) → c′ ≤ highest → AtMost highest (pairFigures x f c′)
-  unfolding pairFigures
+  pub figures-most : (c′ : ℕ) → c′ ≤ highest → AtMost highest (newFigures x f c′)
+  unfolding newFigures newStorage newSediment
   figures-most c′ h = record {
     c = h;
     z =
-        nearest-le (pairStorage x f + x .new .b * c′) (S + sumV (x .new)) highest (omega arith)
+        nearest-le (storageRight x f + x .new .b * c′) (S + sumV (x .new)) highest (omega arith)
         (omega (arith, storage-most x highest f most (ok .old .v) (ok .cb), mul-le-mul-left (x .new .b) h));
     w =
-        nearest-le (pairSediment x f + x .new .h * c′) (S + x .new .h) highest (omega arith)
+        nearest-le (sedimentRight x f + x .new .h * c′) (S + x .new .h) highest (omega arith)
         (omega (arith, sediment-most x highest f most (ok .old .h), mul-le-mul-left (x .new .h) h));
   }
 
@@ -107,20 +106,20 @@ quotient-room n c a num q P pos hq hP most small =
 
 module _ (x : Pair) (f : Figures) (ok : Accepted x) (most : AtMost highest f) where
   -- aP and sN are at most S times the quotients of F, and S each
-  storage-room : x .new .a * pairP x f ≤ S * storageQuotient (x .new) + S
-  unfolding pairP
+  storage-room : x .new .a * P x f ≤ S * storageQuotient (x .new) + S
+  unfolding P
   storage-room =
-      quotient-room (S + sumV (x .new)) (S + x .new .ks + x .new .m) (x .new .a) (pairStorage x f) _ _ (omega arith)
+      quotient-room (S + sumV (x .new)) (S + x .new .ks + x .new .m) (x .new .a) (storageRight x f) _ _ (omega arith)
       (rounds _ _ (omega arith)) (rounds _ _ (omega arith)) (storage-most x highest f most (ok .old .v) (ok .cb)) (omega (arith, ok .new .t))
 
-  sediment-room : x .new .s * pairN x f ≤ S * sedimentQuotient (x .new) + S
-  unfolding pairN
+  sediment-room : x .new .s * N x f ≤ S * sedimentQuotient (x .new) + S
+  unfolding N
   sediment-room =
-      quotient-room (S + x .new .h) S (x .new .s) (pairSediment x f) _ _ (omega arith)
+      quotient-room (S + x .new .h) S (x .new .s) (sedimentRight x f) _ _ (omega arith)
       (rounds _ _ (omega arith)) (rounds _ _ (omega arith)) (sediment-most x highest f most (ok .old .h)) (omega (arith, ok .new .t))
 
-  pub row-fit : (above below : ℕ) → above ≤ highest → below ≤ highest → Fit (pairRow x above below f)
-  unfolding pairRow F
+  pub row-fit : (above below : ℕ) → above ≤ highest → below ≤ highest → Fit (rowOf x above below f)
+  unfolding rowOf R F
   row-fit above below ha hb = record {
     small = omega (arith, ok .new .t);
     wide = omega arith;
@@ -130,7 +129,7 @@ module _ (x : Pair) (f : Figures) (ok : Accepted x) (most : AtMost highest f) wh
 
 -- the rows of a river
 pub rows-fit : (above : ℕ) {xs : List Pair} {fs : List Figures} → above ≤ highest → All Accepted xs → All (AtMost highest) fs →
-    All Fit (rows pairRow above xs fs)
+    All Fit (rows above xs fs)
 rows-fit above ha none fs = none
 rows-fit above ha (cons ok oks) none = none
 rows-fit above ha (cons {x} {xs} ok oks) (cons {x = f} {xs = fs} most mosts) =
@@ -141,13 +140,13 @@ rows-fit above ha (cons {x} {xs} ok oks) (cons {x = f} {xs = fs} most mosts) =
     below-most (cons most mosts) = most .c
 
 -- the new figures of a river
-finish-most : {xs : List Pair} {fs : List Figures} (cs : List ℕ) → All Accepted xs → All (AtMost highest) fs → All (AtMost highest) (finish pairFigures xs fs cs)
+finish-most : {xs : List Pair} {fs : List Figures} (cs : List ℕ) → All Accepted xs → All (AtMost highest) fs → All (AtMost highest) (finish xs fs cs)
 finish-most cs none mosts = none
 finish-most cs (cons ok oks) none = none
 finish-most [] (cons ok oks) (cons most mosts) = none
 finish-most (c ∷ cs) (cons {x} ok oks) (cons {x = f} most mosts) =
     cons (figures-most x f ok most (clamp c) (min-le-right c highest)) (finish-most cs oks mosts)
 
-pub stepped-most : (u u′ : ℕ) {xs : List Pair} {fs : List Figures} → All Accepted xs → All (AtMost highest) fs → All (AtMost highest) (pairStepped u u′ xs fs)
-unfolding pairStepped
+pub stepped-most : (u u′ : ℕ) {xs : List Pair} {fs : List Figures} → All Accepted xs → All (AtMost highest) fs → All (AtMost highest) (stepped u u′ xs fs)
+unfolding stepped
 stepped-most u u′ oks mosts = finish-most _ oks mosts

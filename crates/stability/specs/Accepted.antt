@@ -3,8 +3,7 @@ use Prim.Native.Nat.{ℕ, _≤_}
 use Rattle.rounding.specs.Nearest.{S}
 use Rattle.model.specs.Ranges.{highest}
 use Rattle.model.specs.HalfStep.{Numbers}
-use Rattle.model.specs.Equations.{Figures, sumT, sumV}
-use Rattle.model.specs.TwoSets.{Pair}
+use Rattle.model.specs.Equations.{Figures, Pair, sumT, sumV}
 
 -- T, V and h do not exceed one whole
 pub record Sums (n : Numbers) : Type 0 where

@@ -1,4 +1,3 @@
-pub mod Bounds
 pub mod Tables
 pub mod River
 pub mod DownPass

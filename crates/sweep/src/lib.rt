@@ -1,17 +1,20 @@
-// One step of the river: the downward pass, then the upward pass with storage and sediment.
+// One step of the river: the downward pass, then the upward pass with storage and sediment. The ten lists with 0 are the set of the
+// step's old side, the plain ones that of its new side.
 ghost use mathlib.Core.Path.{_≡_};
 ghost use mathlib.Core.Bool.{cond};
-ghost use mathlib.Core.List.{List, []};
-ghost use Prim.Native.Nat.{ℕ, _≤_};
+ghost use Prim.Native.Nat.{_<_, _≤_};
 ghost use lib.Dec.{ltb};
 ghost use lib.ListN.{length, getD};
-ghost use Rattle.model.specs.Sweep.{downward, finish, up, newFigures};
-ghost use Rattle.model.specs.State.{segmentsOf, figuresOf};
-ghost use Rattle.lists.specs.Lent.{entry, exit, plain};
-ghost use Rattle.terms.specs.Lent.{state, working};
-ghost use Rattle.sweep.specs.Step.{stepColumns, passedOf, Ready, UpReady, FiguresOver, PassedOver, Stepped};
-
-pub mod segment;
+ghost use Rattle.model.specs.Sweep.{downward, finish, up};
+ghost use Rattle.model.specs.State.{pairAt, pairsOf, figuresOf};
+ghost use Rattle.lists.specs.Lent.{entry, exit};
+ghost use Rattle.terms.specs.Lent.{set, state, working};
+ghost use Rattle.segment.specs.Says.{pairSays};
+ghost use Rattle.sweep.specs.Step.{stepColumns, passedOf, LongPairs, Ready, UpReady, FiguresOver, PassedOver, Stepped};
+use segment::Figures;
+use segment::Pair;
+use segment::Passed;
+use terms::Numbers;
 
 // The channel figure at i, 0 below the last segment.
 fn channel_or_0(channel: &[u32], i: usize, n: usize) -> u32
@@ -21,11 +24,61 @@ fn channel_or_0(channel: &[u32], i: usize, n: usize) -> u32
     if i < n { channel[i] } else { 0 }
 }
 
+// Segment i with both its sides.
+fn pair_at(
+    n: usize,
+    i: usize,
+    e0: &[u32],
+    g0: &[u32],
+    l0: &[u32],
+    a0: &[u32],
+    b0: &[u32],
+    k0: &[u32],
+    ks0: &[u32],
+    h0: &[u32],
+    m0: &[u32],
+    s0: &[u32],
+    e: &[u32],
+    g: &[u32],
+    l: &[u32],
+    a: &[u32],
+    b: &[u32],
+    k: &[u32],
+    ks: &[u32],
+    h: &[u32],
+    m: &[u32],
+    s: &[u32],
+    cl: &[u32],
+    cb: &[u32],
+) -> Pair
+    requires { ⌜ (i < n) × LongPairs n (set now e0 g0 l0 a0 b0 k0 ks0 h0 m0 s0)
+        (stepColumns now e g l a b k ks h m s cl cb) ⌝ }
+    ensures { λ x. ⌜ pairSays x ≡ pairAt (set entry e0 g0 l0 a0 b0 k0 ks0 h0 m0 s0)
+        (stepColumns entry e g l a b k ks h m s cl cb) i ⌝ }
+{
+    Pair {
+        old: Numbers::at(n, i, e0, g0, l0, a0, b0, k0, ks0, h0, m0, s0),
+        new: Numbers::at(n, i, e, g, l, a, b, k, ks, h, m, s),
+        cl: cl[i],
+        cb: cb[i],
+    }
+}
+
 // The downward pass writes p and y alone.
 fn downward(
     n: usize,
     u: u32,
     next: u32,
+    e0: &[u32],
+    g0: &[u32],
+    l0: &[u32],
+    a0: &[u32],
+    b0: &[u32],
+    k0: &[u32],
+    ks0: &[u32],
+    h0: &[u32],
+    m0: &[u32],
+    s0: &[u32],
     e: &[u32],
     g: &[u32],
     l: &[u32],
@@ -44,43 +97,56 @@ fn downward(
     p: &mut [u64],
     y: &mut [u64],
 )
-    requires { ⌜ Ready n (stepColumns now e g l a b k ks h m s cl cb [] []) (state now channel storage sediment u 0) (working now p y) next ⌝ }
-    ensures { λ _. ⌜ PassedOver (downward u next (segmentsOf n (stepColumns entry e g l a b k ks h m s cl cb [] []))
-        (figuresOf n (state entry channel storage sediment u 0))) (working entry p y) (exit p) (exit y) ⌝ }
+    requires { ⌜ Ready n (set now e0 g0 l0 a0 b0 k0 ks0 h0 m0 s0) (stepColumns now e g l a b k ks h m s cl cb)
+        (state now channel storage sediment u 0) (working now p y) next ⌝ }
+    ensures { λ _. ⌜ PassedOver (downward u next (pairsOf n (set entry e0 g0 l0 a0 b0 k0 ks0 h0 m0 s0)
+        (stepColumns entry e g l a b k ks h m s cl cb)) (figuresOf n (state entry channel storage sediment u 0)))
+        (working entry p y) (exit p) (exit y) ⌝ }
 {
     let mut above = u;
-    let mut p_above: u64 = 0;
-    let mut y_above = next as u64;
+    let mut d = Passed {
+        p: 0,
+        y: next as u64,
+    };
     let mut i: usize = 0;
     while i < n {
+        let x = pair_at(
+            n,
+            i,
+            e0,
+            g0,
+            l0,
+            a0,
+            b0,
+            k0,
+            ks0,
+            h0,
+            m0,
+            s0,
+            e,
+            g,
+            l,
+            a,
+            b,
+            k,
+            ks,
+            h,
+            m,
+            s,
+            cl,
+            cb,
+        );
         let c = channel[i];
         let below = channel_or_0(channel, i + 1, n);
-        let d = segment::passed_down(
-            e[i],
-            g[i],
-            l[i],
-            a[i],
-            b[i],
-            k[i],
-            ks[i],
-            h[i],
-            m[i],
-            s[i],
-            cl[i],
-            cb[i],
-            above,
-            below,
-            c,
-            storage[i],
-            sediment[i],
-            p_above,
-            y_above,
-        );
+        let f = Figures {
+            c: c,
+            z: storage[i],
+            w: sediment[i],
+        };
+        d = segment::passed_down(x, above, below, f, d);
         above = c;
-        p_above = d.p;
-        y_above = d.y;
-        p[i] = p_above;
-        y[i] = y_above;
+        p[i] = d.p;
+        y[i] = d.y;
         i += 1;
     }
 }
@@ -89,10 +155,27 @@ fn downward(
 // p and y stay as they are.
 fn upward(
     n: usize,
+    e0: &[u32],
+    g0: &[u32],
+    l0: &[u32],
+    a0: &[u32],
+    b0: &[u32],
+    k0: &[u32],
+    ks0: &[u32],
+    h0: &[u32],
+    m0: &[u32],
+    s0: &[u32],
+    e: &[u32],
+    g: &[u32],
+    l: &[u32],
+    a: &[u32],
     b: &[u32],
+    k: &[u32],
     ks: &[u32],
     h: &[u32],
     m: &[u32],
+    s: &[u32],
+    cl: &[u32],
     cb: &[u32],
     p: &[u64],
     y: &[u64],
@@ -100,28 +183,50 @@ fn upward(
     storage: &mut [u32],
     sediment: &mut [u32],
 )
-    requires { ⌜ UpReady n (now b) (now ks) (now h) (now m) (now cb) (state now channel storage sediment 0 0) (working now p y) ⌝ }
-    ensures { λ _. ⌜ ((e g l a k s cl kd start : List ℕ) (u steps : ℕ) → FiguresOver (finish newFigures
-        (segmentsOf n (stepColumns plain e g l a (entry b) k (entry ks) (entry h) (entry m) s cl (entry cb) kd start))
-        (figuresOf n (state entry channel storage sediment u steps)) (up (passedOf n (working entry p y))))
-        (state entry channel storage sediment u steps) (exit channel) (exit storage) (exit sediment)) ⌝ }
+    requires { ⌜ UpReady n (set now e0 g0 l0 a0 b0 k0 ks0 h0 m0 s0) (stepColumns now e g l a b k ks h m s cl cb)
+        (state now channel storage sediment 0 0) (working now p y) ⌝ }
+    ensures { λ _. ⌜ FiguresOver (finish (pairsOf n (set entry e0 g0 l0 a0 b0 k0 ks0 h0 m0 s0)
+        (stepColumns entry e g l a b k ks h m s cl cb)) (figuresOf n (state entry channel storage sediment 0 0))
+        (up (passedOf n (working entry p y)))) (state entry channel storage sediment 0 0) (exit channel) (exit storage) (exit sediment) ⌝ }
 {
     let mut below: u64 = 0;
     let mut i = n;
     while i > 0 {
         i -= 1;
-        below = segment::raised(p[i], y[i], below);
-        let f = segment::new_figures(
-            b[i],
-            ks[i],
-            h[i],
-            m[i],
-            cb[i],
-            channel[i],
-            storage[i],
-            sediment[i],
-            below,
+        let x = pair_at(
+            n,
+            i,
+            e0,
+            g0,
+            l0,
+            a0,
+            b0,
+            k0,
+            ks0,
+            h0,
+            m0,
+            s0,
+            e,
+            g,
+            l,
+            a,
+            b,
+            k,
+            ks,
+            h,
+            m,
+            s,
+            cl,
+            cb,
         );
+        let d = Passed { p: p[i], y: y[i] };
+        below = segment::raised(d, below);
+        let now = Figures {
+            c: channel[i],
+            z: storage[i],
+            w: sediment[i],
+        };
+        let f = segment::new_figures(x, now, below);
         channel[i] = f.c;
         storage[i] = f.z;
         sediment[i] = f.w;
@@ -133,6 +238,16 @@ pub fn step(
     n: usize,
     u: u32,
     next: u32,
+    e0: &[u32],
+    g0: &[u32],
+    l0: &[u32],
+    a0: &[u32],
+    b0: &[u32],
+    k0: &[u32],
+    ks0: &[u32],
+    h0: &[u32],
+    m0: &[u32],
+    s0: &[u32],
     e: &[u32],
     g: &[u32],
     l: &[u32],
@@ -151,15 +266,26 @@ pub fn step(
     p: &mut [u64],
     y: &mut [u64],
 )
-    requires { ⌜ Ready n (stepColumns now e g l a b k ks h m s cl cb [] []) (state now channel storage sediment u 0) (working now p y) next ⌝ }
-    ensures { λ _. ⌜ ((kd start : List ℕ) (steps : ℕ) → Stepped n (stepColumns entry e g l a b k ks h m s cl cb kd start)
-        (state entry channel storage sediment u steps) (working entry p y) next
-        (exit channel) (exit storage) (exit sediment) (exit p) (exit y)) ⌝ }
+    requires { ⌜ Ready n (set now e0 g0 l0 a0 b0 k0 ks0 h0 m0 s0) (stepColumns now e g l a b k ks h m s cl cb)
+        (state now channel storage sediment u 0) (working now p y) next ⌝ }
+    ensures { λ _. ⌜ Stepped n (set entry e0 g0 l0 a0 b0 k0 ks0 h0 m0 s0)
+        (stepColumns entry e g l a b k ks h m s cl cb) (state entry channel storage sediment u 0) (working entry p y) next
+        (exit channel) (exit storage) (exit sediment) (exit p) (exit y) ⌝ }
 {
     downward(
         n,
         u,
         next,
+        e0,
+        g0,
+        l0,
+        a0,
+        b0,
+        k0,
+        ks0,
+        h0,
+        m0,
+        s0,
         e,
         g,
         l,
@@ -178,5 +304,34 @@ pub fn step(
         p,
         y,
     );
-    upward(n, b, ks, h, m, cb, p, y, channel, storage, sediment);
+    upward(
+        n,
+        e0,
+        g0,
+        l0,
+        a0,
+        b0,
+        k0,
+        ks0,
+        h0,
+        m0,
+        s0,
+        e,
+        g,
+        l,
+        a,
+        b,
+        k,
+        ks,
+        h,
+        m,
+        s,
+        cl,
+        cb,
+        p,
+        y,
+        channel,
+        storage,
+        sediment,
+    );
 }

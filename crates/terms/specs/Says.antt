@@ -1,12 +1,14 @@
--- "For an answer that is an enum, a definition gives this paper's number and values for each of its cases": the place, the finding
--- and the reach record of document 01 for each value of the code's types.
+-- "For an answer that is an enum, a definition gives this paper's number and values for each of its cases": the place, the finding,
+-- the reach record and the half-step numbers of document 01 for each value of the code's types.
 use Rattle.model.specs.Refusals as Document
 use Rattle.model.specs.Sheet as Sheet
 use Rattle.terms.specs.declared.Place.{Place}
 use Rattle.terms.specs.declared.Place.the-variants.{Nothing, Reach, Segment, Row}
 use Rattle.terms.specs.declared.Finding.{Finding}
 use Rattle.terms.specs.declared.Finding.the-variants.{Passes, Fails}
+use Rattle.model.specs.HalfStep as HalfStep
 use Rattle.terms.specs.declared.Reach as Record
+use Rattle.terms.specs.declared.Numbers.{Numbers}
 
 abbrev pub placeSays : Place → Document.Place
 placeSays Nothing = Document.nothing
@@ -36,4 +38,18 @@ reachSays r = record {
   kd = r .kd;
   cb = r .cb;
   start = r .start;
+}
+
+abbrev pub numbersSay : Numbers → HalfStep.Numbers
+numbersSay n = record {
+  e = n .e;
+  g = n .g;
+  l = n .l;
+  a = n .a;
+  b = n .b;
+  k = n .k;
+  ks = n .ks;
+  h = n .h;
+  m = n .m;
+  s = n .s;
 }

@@ -1,4 +1,4 @@
-// The library for C: every public call of document 01, exported under its plain name. `include/yumbaqel.h` declares them.
+// The library for C: every public call of the documents, exported under its plain name. `include/yumbaqel.h` declares them.
 //
 // What a call hands out comes first: `number` is 0 or the number of the refusal, `kind` and `place` are its place, and then its values.
 // An accepted call writes all of them and the first entries of its lists; a refused one writes those three numbers and nothing else.
@@ -7,14 +7,16 @@ ghost use mathlib.Core.List.{map};
 ghost use lib.ListN.{length};
 ghost use Rattle.model.specs.Sheet.{dt, dx, rowStarts, rowConcentrations, gaugeCountAt, recordField};
 ghost use Rattle.model.specs.Ranges.{gaugeSection};
+ghost use Rattle.model.specs.Flow.{flowInForce};
 ghost use Rattle.model.specs.Load.{loadAnswer, loadColumns, loadRecords};
 ghost use Rattle.model.specs.Calls.{startAnswer, startState, stepAnswer, stepState, stepWorking, reportAnswer};
 ghost use Rattle.model.specs.Upstream.{upstreamAnswer};
 ghost use Rattle.terms.specs.Says.{reachSays};
 ghost use Rattle.lists.specs.Lent.{entry, exit};
-ghost use Rattle.terms.specs.Lent.{columns, state, working};
+ghost use Rattle.terms.specs.Lent.{set, columns, state, working};
 ghost use Rattle.sheet.specs.Rows.{rowListTest, rowListAfter};
-ghost use Rattle.answers.specs.Answers.{foundBy, handed, Told, loadedValues};
+ghost use Rattle.otis.specs.Outcomes.{handed};
+ghost use Rattle.answers.specs.Answers.{foundBy, Told, loadedValues};
 use answers::put_finding;
 use answers::put_load;
 use answers::put_report;
@@ -24,15 +26,16 @@ use answers::put_upstream;
 use otis::River;
 use terms::Reach;
 
-// A loading: tests 1 to 13. `loaded` is M, the print interval, the segment count, where the rows begin on the sheet and how many there
-// are, and the same of the gauges.
+// A loading for flow `row`, 0 for the flow at the top: tests 1 to 13 with 16 among them. `loaded` is M, the print interval, the segment count,
+// where the rows begin on the sheet and how many there are, and the same of the gauges and of the flow rows.
 #[no_mangle]
 pub extern "C" fn yumbaqel_load(
     number: &mut u32,
     kind: &mut u32,
     place: &mut u32,
-    loaded: &mut [u32; 7],
+    loaded: &mut [u32; 9],
     sheet: &[u8],
+    row: u32,
     reaches: &mut [Reach],
     e: &mut [u32],
     g: &mut [u32],
@@ -49,17 +52,18 @@ pub extern "C" fn yumbaqel_load(
     kd: &mut [u32],
     start: &mut [u32],
 )
-    ensures answer { λ _. ⌜ Told (foundBy (loadAnswer (entry sheet) (length (entry reaches))
+    ensures answer { λ _. ⌜ Told (foundBy (loadAnswer (entry sheet) row (length (entry reaches))
         (columns entry e g l a b k ks h m s cl cb kd start))) (exit number) (exit kind) (exit place) ⌝ }
-    ensures values { λ _. ⌜ exit loaded ≡ handed (loadAnswer (entry sheet) (length (entry reaches))
+    ensures values { λ _. ⌜ exit loaded ≡ handed (loadAnswer (entry sheet) row (length (entry reaches))
         (columns entry e g l a b k ks h m s cl cb kd start)) loadedValues (entry loaded) ⌝ }
-    ensures lists { λ _. ⌜ columns exit e g l a b k ks h m s cl cb kd start ≡ loadColumns (entry sheet) (length (entry reaches))
+    ensures lists { λ _. ⌜ columns exit e g l a b k ks h m s cl cb kd start ≡ loadColumns (entry sheet) row (length (entry reaches))
         (columns entry e g l a b k ks h m s cl cb kd start) ⌝ }
-    ensures records { λ _. ⌜ map reachSays (exit reaches) ≡ loadRecords (entry sheet) (map reachSays (entry reaches))
+    ensures records { λ _. ⌜ map reachSays (exit reaches) ≡ loadRecords (entry sheet) row (map reachSays (entry reaches))
         (columns entry e g l a b k ks h m s cl cb kd start) ⌝ }
 {
     let answer = loading::load(
         sheet,
+        row,
         reaches,
         e,
         g,
@@ -136,13 +140,24 @@ pub extern "C" fn yumbaqel_start(
     put_start(answer, number, kind, place, upstream, done);
 }
 
-// A step: tests 13 to 15. `u` is U' and `steps` is M; p and y are working lists.
+// A step: tests 13 to 15. The ten lists with a 0 are the set of its old side, those behind them that of its new side; `u` is U' and `steps` is M;
+// p and y are working lists.
 #[no_mangle]
 pub extern "C" fn yumbaqel_step(
     number: &mut u32,
     kind: &mut u32,
     place: &mut u32,
     n: u32,
+    e0: &[u32],
+    g0: &[u32],
+    l0: &[u32],
+    a0: &[u32],
+    b0: &[u32],
+    k0: &[u32],
+    ks0: &[u32],
+    h0: &[u32],
+    m0: &[u32],
+    s0: &[u32],
     e: &[u32],
     g: &[u32],
     l: &[u32],
@@ -167,12 +182,12 @@ pub extern "C" fn yumbaqel_step(
     u: u32,
     steps: u32,
 )
-    ensures answer { λ _. ⌜ Told (foundBy (stepAnswer n (columns entry e g l a b k ks h m s cl cb kd start)
+    ensures answer { λ _. ⌜ Told (foundBy (stepAnswer n (set entry e0 g0 l0 a0 b0 k0 ks0 h0 m0 s0) (columns entry e g l a b k ks h m s cl cb kd start)
         (state entry channel storage sediment (entry upstream) (entry done)) (working entry p y) u steps)) (exit number) (exit kind) (exit place) ⌝ }
-    ensures state { λ _. ⌜ state exit channel storage sediment (exit upstream) (exit done) ≡ stepState n
+    ensures state { λ _. ⌜ state exit channel storage sediment (exit upstream) (exit done) ≡ stepState n (set entry e0 g0 l0 a0 b0 k0 ks0 h0 m0 s0)
         (columns entry e g l a b k ks h m s cl cb kd start) (state entry channel storage sediment (entry upstream) (entry done))
         (working entry p y) u steps ⌝ }
-    ensures working { λ _. ⌜ working exit p y ≡ stepWorking n (columns entry e g l a b k ks h m s cl cb kd start)
+    ensures working { λ _. ⌜ working exit p y ≡ stepWorking n (set entry e0 g0 l0 a0 b0 k0 ks0 h0 m0 s0) (columns entry e g l a b k ks h m s cl cb kd start)
         (state entry channel storage sediment (entry upstream) (entry done)) (working entry p y) u steps ⌝ }
 {
     let river = River {
@@ -181,6 +196,16 @@ pub extern "C" fn yumbaqel_step(
     };
     let answer = river.step(
         n,
+        e0,
+        g0,
+        l0,
+        a0,
+        b0,
+        k0,
+        ks0,
+        h0,
+        m0,
+        s0,
         e,
         g,
         l,
@@ -321,6 +346,15 @@ pub extern "C" fn yumbaqel_gauge(sheet: &[u8], j: usize) -> u32
     sheet::fields::gauge(sheet, j)
 }
 
+// The number of the flow in force at step j of a sheet: 0 for the flow at the top, else the flow row. Of a sheet that no loading accepts it is that of
+// the rows that its count names; bytes past the sheet's end count as 0.
+#[no_mangle]
+pub extern "C" fn yumbaqel_flow(sheet: &[u8], j: u32) -> u32
+    ensures { λ r. ⌜ r ≡ flowInForce (entry sheet) j ⌝ }
+{
+    sheet::fields::flow_in_force(sheet, j)
+}
+
 // dt of a sheet, in seconds. Bytes past the sheet's end count as 0.
 #[no_mangle]
 pub extern "C" fn yumbaqel_dt(sheet: &[u8]) -> u32
@@ -337,10 +371,10 @@ pub extern "C" fn yumbaqel_dx(sheet: &[u8]) -> u32
     sheet::fields::dx(sheet)
 }
 
-// The version of this interface, 1.1.0: the first number times 10,000, the second times 100 and the third.
+// The version of this interface, 2.0.0: the first number times 10,000, the second times 100 and the third.
 #[no_mangle]
 pub extern "C" fn yumbaqel_version() -> u32
-    ensures { λ r. ⌜ r ≡ 10100 ⌝ }
+    ensures { λ r. ⌜ r ≡ 20000 ⌝ }
 {
-    10100
+    20000
 }

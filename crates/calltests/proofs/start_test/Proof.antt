@@ -13,7 +13,9 @@ unfolding startTests
 returns c = rw (sym (c .before .river-fault .ensures) ∙ c .if1 .taken)
 
 segment-at-fault-requires : tie.Need-segment-at-fault-requires
-segment-at-fault-requires c κs = columns-long _ _ _ (sym (c .before .river-fault .ensures) ∙ c .if1 .left)
+segment-at-fault-requires c κs =
+    let r = sym (c .before .river-fault .ensures) ∙ c .if1 .left in
+    (counted _ _ r .1, columns-long _ _ _ r)
 
 place-of-requires : tie.Need-place-of-requires
 place-of-requires c κs = omega (arith, counted _ _ (sym (c .before .before .before .river-fault .ensures) ∙ c .before .before .if1 .left))

@@ -2,61 +2,61 @@
 use Prim.Native.Nat.{_-_, _≤_}
 use native.Mathlib.Omega.{arith}
 use borrow.Author.Needs.{needs}
-use Rattle.model.specs.Sheet.{reaches}
+use Rattle.model.specs.Sheet.{dx, reaches}
 use Rattle.model.specs.Flow.{courseOf}
 use Rattle.lists.specs.Lent.{plain}
 use Rattle.terms.specs.Lent.{columns}
 use Rattle.halfstep.proofs.Segments.{Descended}
-use Rattle.course.proofs.River.{few, clear-site, passes-site, numbers-are, descended-start, stands, descends-here, descended-here}
+use Rattle.course.proofs.River.{few, clear-site, passes-site, numbers-are, descended-start, descends-here, descended-here}
 use Rattle.columns.proofs.Writing.{Writing, writing-start, writing-turn, writing-end, segment-is}
 use Rattle.columns.proofs.fill.Statement.{statement}
 use Rattle.columns.proofs.fill.Tie as tie
 
 abbrev Inv-loop : tie.InvT-loop
-Inv-loop sheet n e₀ g₀ l₀ a₀ b₀ k₀ ks₀ h₀ m₀ s₀ cl₀ cb₀ kd₀ start₀ step at₀ i₀ e g l a b k ks h m s cl cb kd start at i =
-    Descended (reaches sheet) (courseOf sheet) i at × Writing (courseOf sheet) (columns plain e₀ g₀ l₀ a₀ b₀ k₀ ks₀ h₀ m₀ s₀ cl₀ cb₀ kd₀ start₀) i (columns plain e g l a b k ks h m s cl cb kd start) × (i ≤ n)
+Inv-loop sheet row n e₀ g₀ l₀ a₀ b₀ k₀ ks₀ h₀ m₀ s₀ cl₀ cb₀ kd₀ start₀ step at₀ i₀ e g l a b k ks h m s cl cb kd start at i =
+    Descended (reaches sheet) (dx sheet) i at × Writing (courseOf sheet row) (columns plain e₀ g₀ l₀ a₀ b₀ k₀ ks₀ h₀ m₀ s₀ cl₀ cb₀ kd₀ start₀) i (columns plain e g l a b k ks h m s cl cb kd start) × (i ≤ n)
 
 abbrev μ-loop : tie.MeasureT-loop
-μ-loop sheet n e₀ g₀ l₀ a₀ b₀ k₀ ks₀ h₀ m₀ s₀ cl₀ cb₀ kd₀ start₀ step at₀ i₀ e g l a b k ks h m s cl cb kd start at i = n - i
+μ-loop sheet row n e₀ g₀ l₀ a₀ b₀ k₀ ks₀ h₀ m₀ s₀ cl₀ cb₀ kd₀ start₀ step at₀ i₀ e g l a b k ks h m s cl cb kd start at i = n - i
 
 loop-holds : tie.Need-loop-holds Inv-loop μ-loop
 loop-holds c = (descended-start (c .before .before .before .before .before .before .before .before .before .before .before .before .before .before .before .before .before .before .pre .0) (c .before .reach .ensures) (c .start .ensures), writing-start, omega arith)
 
 site-requires : tie.Need-site-requires Inv-loop μ-loop
-site-requires c κs = (c .before .before .before .before .before .before .before .before .before .before .before .before .before .before .before .before .before .before .before .before .pre .0, c .loop-test .taken, stands _ _ _ (c .before .loop .inv .0))
+site-requires c κs = (c .before .before .before .before .before .before .before .before .before .before .before .before .before .before .before .before .before .before .before .before .pre .0, c .loop-test .taken, c .before .loop .inv .0 .same)
 
 numbers-requires : tie.Need-numbers-requires Inv-loop μ-loop
 numbers-requires c κs = passes-site (clear-site (c .before .site .ensures) (omega arith) (c .before .before .before .before .before .before .before .before .before .before .before .before .before .before .before .before .before .before .before .before .before .before .pre .1) (c .before .before .loop-test .taken)) (omega arith)
 
 slice-write-e : tie.Need-slice-write-e Inv-loop μ-loop
-slice-write-e c = omega (arith, c .before .before .before .loop-test .taken, c .before .before .before .before .loop .inv .1 .e .long, c .before .before .before .before .before .before .before .before .before .before .before .before .before .before .before .before .before .before .before .before .before .before .before .pre .2 .e)
+slice-write-e c = omega (arith, c .before .before .before .loop-test .taken, c .before .before .before .before .loop .inv .1 .e .long, c .before .before .before .before .before .before .before .before .before .before .before .before .before .before .before .before .before .before .before .before .before .before .before .pre .2 .numbers .e)
 
 slice-write-g : tie.Need-slice-write-g Inv-loop μ-loop
-slice-write-g c = omega (arith, c .before .before .before .loop-test .taken, c .before .before .before .before .loop .inv .1 .g .long, c .before .before .before .before .before .before .before .before .before .before .before .before .before .before .before .before .before .before .before .before .before .before .before .pre .2 .g)
+slice-write-g c = omega (arith, c .before .before .before .loop-test .taken, c .before .before .before .before .loop .inv .1 .g .long, c .before .before .before .before .before .before .before .before .before .before .before .before .before .before .before .before .before .before .before .before .before .before .before .pre .2 .numbers .g)
 
 slice-write-l : tie.Need-slice-write-l Inv-loop μ-loop
-slice-write-l c = omega (arith, c .before .before .before .loop-test .taken, c .before .before .before .before .loop .inv .1 .l .long, c .before .before .before .before .before .before .before .before .before .before .before .before .before .before .before .before .before .before .before .before .before .before .before .pre .2 .l)
+slice-write-l c = omega (arith, c .before .before .before .loop-test .taken, c .before .before .before .before .loop .inv .1 .l .long, c .before .before .before .before .before .before .before .before .before .before .before .before .before .before .before .before .before .before .before .before .before .before .before .pre .2 .numbers .l)
 
 slice-write-a : tie.Need-slice-write-a Inv-loop μ-loop
-slice-write-a c = omega (arith, c .before .before .before .loop-test .taken, c .before .before .before .before .loop .inv .1 .a .long, c .before .before .before .before .before .before .before .before .before .before .before .before .before .before .before .before .before .before .before .before .before .before .before .pre .2 .a)
+slice-write-a c = omega (arith, c .before .before .before .loop-test .taken, c .before .before .before .before .loop .inv .1 .a .long, c .before .before .before .before .before .before .before .before .before .before .before .before .before .before .before .before .before .before .before .before .before .before .before .pre .2 .numbers .a)
 
 slice-write-b : tie.Need-slice-write-b Inv-loop μ-loop
-slice-write-b c = omega (arith, c .before .before .before .loop-test .taken, c .before .before .before .before .loop .inv .1 .b .long, c .before .before .before .before .before .before .before .before .before .before .before .before .before .before .before .before .before .before .before .before .before .before .before .pre .2 .b)
+slice-write-b c = omega (arith, c .before .before .before .loop-test .taken, c .before .before .before .before .loop .inv .1 .b .long, c .before .before .before .before .before .before .before .before .before .before .before .before .before .before .before .before .before .before .before .before .before .before .before .pre .2 .numbers .b)
 
 slice-write-k : tie.Need-slice-write-k Inv-loop μ-loop
-slice-write-k c = omega (arith, c .before .before .before .loop-test .taken, c .before .before .before .before .loop .inv .1 .k .long, c .before .before .before .before .before .before .before .before .before .before .before .before .before .before .before .before .before .before .before .before .before .before .before .pre .2 .k)
+slice-write-k c = omega (arith, c .before .before .before .loop-test .taken, c .before .before .before .before .loop .inv .1 .k .long, c .before .before .before .before .before .before .before .before .before .before .before .before .before .before .before .before .before .before .before .before .before .before .before .pre .2 .numbers .k)
 
 slice-write-ks : tie.Need-slice-write-ks Inv-loop μ-loop
-slice-write-ks c = omega (arith, c .before .before .before .loop-test .taken, c .before .before .before .before .loop .inv .1 .ks .long, c .before .before .before .before .before .before .before .before .before .before .before .before .before .before .before .before .before .before .before .before .before .before .before .pre .2 .ks)
+slice-write-ks c = omega (arith, c .before .before .before .loop-test .taken, c .before .before .before .before .loop .inv .1 .ks .long, c .before .before .before .before .before .before .before .before .before .before .before .before .before .before .before .before .before .before .before .before .before .before .before .pre .2 .numbers .ks)
 
 slice-write-h : tie.Need-slice-write-h Inv-loop μ-loop
-slice-write-h c = omega (arith, c .before .before .before .loop-test .taken, c .before .before .before .before .loop .inv .1 .h .long, c .before .before .before .before .before .before .before .before .before .before .before .before .before .before .before .before .before .before .before .before .before .before .before .pre .2 .h)
+slice-write-h c = omega (arith, c .before .before .before .loop-test .taken, c .before .before .before .before .loop .inv .1 .h .long, c .before .before .before .before .before .before .before .before .before .before .before .before .before .before .before .before .before .before .before .before .before .before .before .pre .2 .numbers .h)
 
 slice-write-m : tie.Need-slice-write-m Inv-loop μ-loop
-slice-write-m c = omega (arith, c .before .before .before .loop-test .taken, c .before .before .before .before .loop .inv .1 .m .long, c .before .before .before .before .before .before .before .before .before .before .before .before .before .before .before .before .before .before .before .before .before .before .before .pre .2 .m)
+slice-write-m c = omega (arith, c .before .before .before .loop-test .taken, c .before .before .before .before .loop .inv .1 .m .long, c .before .before .before .before .before .before .before .before .before .before .before .before .before .before .before .before .before .before .before .before .before .before .before .pre .2 .numbers .m)
 
 slice-write-s : tie.Need-slice-write-s Inv-loop μ-loop
-slice-write-s c = omega (arith, c .before .before .before .loop-test .taken, c .before .before .before .before .loop .inv .1 .s .long, c .before .before .before .before .before .before .before .before .before .before .before .before .before .before .before .before .before .before .before .before .before .before .before .pre .2 .s)
+slice-write-s c = omega (arith, c .before .before .before .loop-test .taken, c .before .before .before .before .loop .inv .1 .s .long, c .before .before .before .before .before .before .before .before .before .before .before .before .before .before .before .before .before .before .before .before .before .before .before .pre .2 .numbers .s)
 
 slice-write-cl : tie.Need-slice-write-cl Inv-loop μ-loop
 slice-write-cl c = omega (arith, c .before .before .before .loop-test .taken, c .before .before .before .before .loop .inv .1 .cl .long, c .before .before .before .before .before .before .before .before .before .before .before .before .before .before .before .before .before .before .before .before .before .before .before .pre .2 .cl)
@@ -72,7 +72,7 @@ slice-write-start c = omega (arith, c .before .before .before .loop-test .taken,
 
 next-requires : tie.Need-next-requires Inv-loop μ-loop
 next-requires c κs =
-    descends-here (c .before .before .before .before .before .before .before .before .before .before .before .before .before .before .before .before .before .before .before .before .before .before .before .pre .0) (c .before .before .before .loop-test .taken) (c .before .before .before .before .loop .inv .0) (c .before .before .site .ensures) (c .before .before .before .before .before .before .before .dx .ensures)
+    descends-here (c .before .before .before .before .before .before .before .before .before .before .before .before .before .before .before .before .before .before .before .before .before .before .before .pre .0) _ (c .before .before .before .loop-test .taken) (c .before .before .before .before .loop .inv .0) (c .before .before .site .ensures) (c .before .before .before .before .before .before .before .dx .ensures)
 
 loop-again : tie.Need-loop-again Inv-loop μ-loop
 loop-again c =
@@ -80,7 +80,7 @@ loop-again c =
     let h = c .before .before .before .before .loop-test .taken in
     let inv = c .before .before .before .before .before .loop .inv in
     let s = c .before .before .before .site .ensures in (
-      descended-here (p .0) h (inv .0) s (c .before .before .before .before .before .before .before .before .dx .ensures) (c .next .ensures),
+      descended-here (p .0) _ h (inv .0) s (c .before .before .before .before .before .before .before .before .dx .ensures) (c .next .ensures),
       writing-turn (inv .1) (p .2) h (segment-is _ _ (c .before .numbers .result) (c .before .before .before .site .result .own) (numbers-are s (p .1) h (c .before .numbers .ensures)) (s .own)),
       omega (arith, h),
     )
@@ -129,7 +129,7 @@ same-length-14 c = c .before .loop .inv .1 .start .long
 
 returns : tie.Need-returns Inv-loop μ-loop
 returns c =
-    writing-end (c .before .before .before .before .before .before .before .before .before .before .before .before .before .before .before .before .before .before .before .before .args .sheet .now) (c .before .loop .inv .1)
+    writing-end (c .before .before .before .before .before .before .before .before .before .before .before .before .before .before .before .before .before .before .before .before .args .sheet .now) (c .before .before .before .before .before .before .before .before .before .before .before .before .before .before .before .before .before .before .before .before .args .row) (c .before .loop .inv .1)
     (omega (arith, c .loop-test .left, c .before .loop .inv .2, c .before .before .before .before .before .before .before .before .before .before .before .before .before .before .before .before .before .before .before .before .pre .0 .count))
 
 pub fill-spec : {M : Type 1} → statement M

@@ -3,13 +3,13 @@ use borrow.Author.Needs.{needs}
 use Rattle.model.specs.Sheet.{dx}
 use Rattle.terms.specs.Says.{reachSays}
 use Rattle.halfstep.specs.Descent.{Descends}
-use Rattle.course.proofs.River.{stood, descends-read, site-read}
+use Rattle.course.proofs.River.{descends-read, site-read}
 use Rattle.course.proofs.site.Statement.{statement}
 use Rattle.course.proofs.site.Tie as tie
 
 -- what the descent has at this segment
 descends : (c : tie.After-reach) → Descends (dx (c .before .before .before .args .sheet .now)) (reachSays (c .reach .result)) (c .before .before .before .args .at)
-descends c = let p = c .before .before .before .pre in descends-read (p .0) (p .1) (stood _ _ _ (p .2)) (c .reach .ensures)
+descends c = let p = c .before .before .before .pre in descends-read (p .0) 0 (p .1) (record { same = p .2 }) (c .reach .ensures)
 
 below-requires : tie.Need-below-requires
 below-requires c κs = (descends c .passed, descends c .reach)
@@ -21,8 +21,8 @@ returns : tie.Need-returns
 returns c =
     let own = c .before .before .before .before .before .before in
     let p = own .before .before .before .pre in
-    rw (c .new .ensures, c .before .dx .ensures, c .before .before .dt .ensures, c .before .before .before .top-flow .ensures)
-    (site-read (p .0) (p .1) (stood _ _ _ (p .2)) (own .reach .ensures) _ (c .before .before .before .before .before .below .ensures) (c .before .before .before .before .reach2 .ensures))
+    rw (c .new .ensures, c .before .dx .ensures, c .before .before .dt .ensures, c .before .before .before .top-of .ensures)
+    (site-read (p .0) _ (p .1) (record { same = p .2 }) (own .reach .ensures) _ (c .before .before .before .before .before .below .ensures) (c .before .before .before .before .reach2 .ensures))
 
 pub site-spec : {M : Type 1} → statement M
 site-spec =

@@ -8,11 +8,11 @@ use Rattle.river.proofs.put_step.Statement.{statement}
 use Rattle.river.proofs.put_step.Tie as tie
 
 abbrev Inv-loop : tie.InvT-loop
-Inv-loop river sheet gauges segments e g l a b k ks h m s cl cb kd start channel storage sediment buffer₀ out₀ left₀ buffer out left =
+Inv-loop river sheet gauges segments columns channel storage sediment buffer₀ out₀ left₀ buffer out left =
     (length buffer ≡ length buffer₀) × (left ≤ gauges)
 
 abbrev μ-loop : tie.MeasureT-loop
-μ-loop river sheet gauges segments e g l a b k ks h m s cl cb kd start channel storage sediment buffer₀ out₀ left₀ buffer out left = left
+μ-loop river sheet gauges segments columns channel storage sediment buffer₀ out₀ left₀ buffer out left = left
 
 pub put-step-spec : {M : Type 1} → statement M
 put-step-spec =

@@ -57,12 +57,16 @@ returns-8 c =
 
 returns-9 : tie.Need-returns-9
 unfolding sheetTests
-returns-9 c =
+returns-9 c = rw (c .before .match .keys9) (c .flow-row-test .ensures)
+
+returns-10 : tie.Need-returns-10
+unfolding sheetTests
+returns-10 c =
     let r = c .match .rest in
-    let two : 2 ≤ c .before .before .args .k = next (next zero-le (r .0 .0 .0 .0 .0 .0 .0 .1)) (r .0 .0 .0 .0 .0 .0 .1) in
-    let four = next (next two (r .0 .0 .0 .0 .0 .1)) (r .0 .0 .0 .0 .1) in
+    let three : 3 ≤ c .before .before .args .k = next (next (next zero-le (r .0 .0 .0 .0 .0 .0 .0 .0 .1)) (r .0 .0 .0 .0 .0 .0 .0 .1)) (r .0 .0 .0 .0 .0 .0 .1) in
+    let five = next (next three (r .0 .0 .0 .0 .0 .1)) (r .0 .0 .0 .0 .1) in
     sym (List·getD-eq-default (sheetTests (c .before .before .args .sheet .now)) passes
-    (next (next (next (next four (r .0 .0 .0 .1)) (r .0 .0 .1)) (r .0 .1)) (r .1)))
+    (next (next (next (next five (r .0 .0 .0 .1)) (r .0 .0 .1)) (r .0 .1)) (r .1)))
 
 pub kth-test-spec : {M : Type 1} → statement M
 kth-test-spec =
@@ -82,6 +86,7 @@ kth-test-spec =
     (λ c κs. tt)
     (λ c κs. tt)
     (λ c κs. tt)
+    (λ c κs. tt)
     returns
     returns-2
     returns-3
@@ -90,4 +95,5 @@ kth-test-spec =
     returns-6
     returns-7
     returns-8
-    returns-9)
+    returns-9
+    returns-10)

@@ -12,12 +12,12 @@ use Rattle.sheet.proofs.sheet_test.Statement.{statement}
 use Rattle.sheet.proofs.sheet_test.Tie as tie
 
 abbrev Inv-loop : tie.InvT-loop
-Inv-loop sheet k₀ k = Judging (sheetTests sheet) k × (k ≤ 8)
+Inv-loop sheet k₀ k = Judging (sheetTests sheet) k × (k ≤ 9)
 
 abbrev μ-loop : tie.MeasureT-loop
-μ-loop sheet k₀ k = 8 - k
+μ-loop sheet k₀ k = 9 - k
 
-length-tests : (sheet : List ℕ) → length (sheetTests sheet) ≡ 8
+length-tests : (sheet : List ℕ) → length (sheetTests sheet) ≡ 9
 unfolding sheetTests
 length-tests sheet = refl
 

@@ -6,7 +6,7 @@ use Rattle.sweep.proofs.step.Tie as tie
 
 -- the function's entry, from the first call
 abbrev entry : tie.After-downward → tie.Start
-entry d = d .before .before .before .before .before .before .before .before .before .before .before .before .before .before .before .before .before .before .before .before .before .before .before
+entry c = c .before .before .before .before .before .before .before .before .before .before .before .before .before .before .before .before .before .before .before .before .before .before .before .before .before .before .before .before .before .before .before .before .before
 
 upward-requires : tie.Need-upward-requires
 upward-requires c κs = let d = c .before .before .before .before .before .before .before .before .before in up-ready (entry d .pre) (d .downward .ensures)
@@ -18,5 +18,5 @@ pub step-spec : {M : Type 1} → statement M
 step-spec =
     tie.close
     (tie.spec
-    (λ c κs. search needs) upward-requires (λ c. search needs) (λ c. search needs) (λ c. search needs)
-    (λ c. search needs) (λ c. search needs) returns)
+    (λ c κs. search needs) upward-requires (λ c. search needs) (λ c. search needs) (λ c. search needs) (λ c. search needs) (λ c. search needs)
+    returns)

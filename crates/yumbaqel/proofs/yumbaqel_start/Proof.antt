@@ -1,6 +1,5 @@
 -- `yumbaqel_start` meets its contract.
 use borrow.Author.Needs.{needs}
-use Rattle.yumbaqel.proofs.Leaves.{started}
 use Rattle.yumbaqel.proofs.yumbaqel_start.Statement.{statement}
 use Rattle.yumbaqel.proofs.yumbaqel_start.Tie as tie
 
@@ -8,7 +7,7 @@ returns : tie.Need-returns
 returns c =
     let outcome = c .before .before .before .before .before .before .before .before .before .before .before .before .start .ensures _ _ in
     let put = c .put-start .ensures in
-    (rw (outcome .answer) at (put .0), started _ _ _ _ outcome (put .1 .0) (put .1 .1))
+    (rw (outcome .answer) at (put .0), rw (put .1 .0, put .1 .1) (outcome .state))
 
 pub yumbaqel-start-spec : {M : Type 1} → statement M
 yumbaqel-start-spec =

@@ -1,6 +1,5 @@
 -- `yumbaqel_step` meets its contract.
 use borrow.Author.Needs.{needs}
-use Rattle.yumbaqel.proofs.Leaves.{stepped, as-working}
 use Rattle.yumbaqel.proofs.yumbaqel_step.Statement.{statement}
 use Rattle.yumbaqel.proofs.yumbaqel_step.Tie as tie
 
@@ -8,7 +7,7 @@ returns : tie.Need-returns
 returns c =
     let outcome = c .before .before .before .before .before .before .before .before .before .before .before .before .before .before .before .before .step .ensures in
     let put = c .put-step .ensures in
-    (rw (outcome .answer) at (put .0), (stepped _ _ _ _ _ _ outcome (put .1 .0) (put .1 .1), as-working _ (outcome .p) (outcome .y)))
+    (rw (outcome .answer) at (put .0), (rw (put .1 .0, put .1 .1) (outcome .state), outcome .working))
 
 pub yumbaqel-step-spec : {M : Type 1} → statement M
 yumbaqel-step-spec =

@@ -31,26 +31,26 @@ lent c =
     (c .args .start .now)
 
 -- all tests pass
-passed : (c : tie.After-enum-told) → let s = c .before .before .before .before .before .before .before .before .before .before .before .before .before .before .before .before .before .before .before .before .before .before .before .before .before .before .before .before .before .before .before .before in first (loadTests (s .args .sheet .now) (s .args .records) (lent s)) ≡ passes
+passed : (c : tie.After-enum-told) → let s = c .before .before .before .before .before .before .before .before .before .before .before .before .before .before .before .before .before .before .before .before .before .before .before .before .before .before .before .before .before .before .before .before in first (loadTests (s .args .sheet .now) (s .args .row) (s .args .records) (lent s)) ≡ passes
 passed c = sym (c .before .before .load-test .ensures) ∙ ap findingSays (c .enum-told .given .1)
 
 read-requires : tie.Need-read-requires
-read-requires c κs = ready _ _ _ (passed (c .before)) _ (c .segment-count .ensures) .read
+read-requires c κs = ready _ _ _ _ (passed (c .before)) _ (c .segment-count .ensures) .read
 
 fill-requires : tie.Need-fill-requires
 fill-requires c κs =
-    let r = ready _ _ _ (passed (c .before .before .before .before .before .before .before .before .before .before .before .before .before .before .before .before)) _ (c .before .before .before .before .before .before .before .before .before .before .before .before .before .before .before .segment-count .ensures) in
+    let r = ready _ _ _ _ (passed (c .before .before .before .before .before .before .before .before .before .before .before .before .before .before .before .before)) _ (c .before .before .before .before .before .before .before .before .before .before .before .before .before .before .before .segment-count .ensures) in
     (r .read, r .clear, r .long)
 
 returns : tie.Need-returns
 returns c =
     let e = passed (c .before .before .before .before .before .before .before .before .before .before .before .before .before .before .before .before .before .before .before .before .before .before .before .before .before .before .before .before .before .before .before .before .before .before .before .before .before .before .before .before .before .before .before .before .before) in
-    (ap accepted (c .before .before .before .before .before .before .before .before .before .before .before .before .before .before .before .before .before .before .before .before .before .before .before .before .before .before .before .before .before .before .before .before .before .before .before .before .before .before .before .before .before .before .before .read .ensures) ∙ answer-accepted _ _ _ e, c .before .before .before .before .before .before .before .before .before .before .before .before .before .before .before .before .before .before .before .before .before .before .before .before .before .before .before .before .fill .ensures ∙ lists-accepted _ _ _ e)
+    (ap accepted (c .before .before .before .before .before .before .before .before .before .before .before .before .before .before .before .before .before .before .before .before .before .before .before .before .before .before .before .before .before .before .before .before .before .before .before .before .before .before .before .before .before .before .before .read .ensures) ∙ answer-accepted _ _ _ _ e, c .before .before .before .before .before .before .before .before .before .before .before .before .before .before .before .before .before .before .before .before .before .before .before .before .before .before .before .before .fill .ensures ∙ lists-accepted _ _ _ _ e)
 
 returns-2 : tie.Need-returns-2
 returns-2 c =
     let e = sym (c .before .before .before .load-test .ensures) ∙ ap findingSays (c .before .found .given .1) in
-    (answer-refused _ _ (lent (c .before .before .before .before .before .before .before .before .before .before .before .before .before .before .before .before .before .before .before .before .before .before .before .before .before .before .before .before .before .before .before .before .before)) e, lists-refused _ _ (lent (c .before .before .before .before .before .before .before .before .before .before .before .before .before .before .before .before .before .before .before .before .before .before .before .before .before .before .before .before .before .before .before .before .before)) e)
+    (answer-refused _ _ _ (lent (c .before .before .before .before .before .before .before .before .before .before .before .before .before .before .before .before .before .before .before .before .before .before .before .before .before .before .before .before .before .before .before .before .before)) e, lists-refused _ _ _ (lent (c .before .before .before .before .before .before .before .before .before .before .before .before .before .before .before .before .before .before .before .before .before .before .before .before .before .before .before .before .before .before .before .before .before)) e)
 
 pub assemble-spec : {M : Type 1} → statement M
 assemble-spec =

@@ -1,8 +1,8 @@
--- `segments::river_fault` meets its contract.
+-- `segments::river_fault` meets its contract: the count, the set, the other lists.
 use mathlib.Core.Path.{sym, _∙_}
-use borrow.Author.Needs.{needs}
 use Rattle.model.specs.Calls.{riverFault}
-use Rattle.calltests.proofs.RiverLaws.{lengths-below}
+use Rattle.calltests.proofs.RiverLaws.{river-set, river-others}
+use borrow.Author.Needs.{needs}
 use Rattle.calltests.proofs.segments.river_fault.Statement.{statement}
 use Rattle.calltests.proofs.segments.river_fault.Tie as tie
 
@@ -11,14 +11,13 @@ unfolding riverFault
 returns c = rw (sym (c .before .outside .ensures) ∙ c .if1 .taken)
 
 returns-2 : tie.Need-returns-2
-unfolding riverFault
-returns-2 c = rw (sym (c .before .before .outside .ensures) ∙ c .before .if1 .left) (c .any-short .ensures ∙ lengths-below _ _)
+returns-2 c = sym (river-set _ _ _ (sym (c .before .before .before .outside .ensures) ∙ c .before .before .if1 .left) (sym (c .before .set-short .ensures) ∙ c .if2 .taken))
+
+returns-3 : tie.Need-returns-3
+returns-3 c = c .others-short .ensures ∙ sym (river-others _ _ _ (sym (c .before .before .before .before .outside .ensures) ∙ c .before .before .before .if1 .left) (sym (c .before .before .set-short .ensures) ∙ c .before .if2 .left))
 
 pub river-fault-spec : {M : Type 1} → statement M
 river-fault-spec =
     tie.close
     (tie.spec
-    (λ c κs. search needs)
-    returns
-    (λ c κs. search needs)
-    returns-2)
+    (λ c κs. search needs) returns (λ c κs. search needs) returns-2 (λ c κs. search needs) returns-3)

@@ -10,7 +10,7 @@ returns c = λ starts concentrations row.
       c .before .starts-late .ensures starts concentrations _ row,
       c .outside .ensures,
       row .start-is,
-      row .concentration-is,
+      row .figure-is,
     )
 
 pub row-fault-spec : {M : Type 1} → statement M

@@ -36,7 +36,7 @@ asked c =
     (record {
       before-is = l .loop .inv .1;
       start-is = row-start sheet _ (omega arith) ∙ sym (c .before .before .row-start .ensures);
-      concentration-is = row-concentration sheet _ (omega arith) ∙ sym (c .before .row-concentration .ensures);
+      figure-is = row-concentration sheet _ (omega arith) ∙ sym (c .before .row-concentration .ensures);
     }))
 
 returns : tie.Need-returns Inv-loop μ-loop

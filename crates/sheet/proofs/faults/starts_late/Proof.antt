@@ -1,4 +1,5 @@
 -- `starts_late` meets its contract: the first row and any other. Assumes nothing.
+use mathlib.Core.Path.{_∙_}
 use native.Mathlib.Omega.{arith}
 use Rattle.sheet.proofs.Entries.{late-first, late-next}
 use Rattle.sheet.proofs.faults.starts_late.Statement.{statement}
@@ -9,7 +10,7 @@ returns c = λ starts concentrations x row. late-first starts _ _ (row .start-is
 
 returns-2 : tie.Need-returns-2
 returns-2 c = λ starts concentrations x row.
-    late-next starts _ _ _ (row .start-is) (row .before-is (omega arith)) (omega arith)
+    c .not-rising .ensures starts (row .before-is) (row .start-is) ∙ late-next starts _ (omega arith)
 
 pub starts-late-spec : {M : Type 1} → statement M
-starts-late-spec = tie.close (tie.spec returns returns-2)
+starts-late-spec = tie.close (tie.spec returns (λ c κs. tt) returns-2)

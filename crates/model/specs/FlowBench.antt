@@ -1,0 +1,176 @@
+-- Document 02, 1 in figures, beside document 01's bench: sheets with flow rows, and steps whose two sets differ. A line has
+-- what the definitions give and what was worked out apart from them; proofs/FlowBench shows of the whole table at once that they are the same.
+use mathlib.Core.List.{List, [], _∷_, _++_, map}
+use Prim.Native.Nat.{ℕ, _*_, _^_}
+use native.Mathlib.Omega.{arith}
+use lib.IntN.{pos}
+use lib.ListN.{getD, replicate}
+use Rattle.fractions.specs.Fractions.{whole}
+use Rattle.model.specs.Sheet.{otr2}
+use Rattle.model.specs.Flow.{flowInForce}
+use Rattle.model.specs.Equations.{Pair}
+use Rattle.model.specs.ExactRiver.{ExactFigures, ExactStep}
+use Rattle.model.specs.State.{NumberSet, Columns, State}
+use Rattle.model.specs.Refusals.{nothing, reach, segment, row, Outcome, accepted, refused}
+use Rattle.model.specs.Load.{loaded, loadAnswer, loadColumns}
+use Rattle.model.specs.Calls.{stepAnswer, stepState, stepWorking}
+use Rattle.model.specs.Runs.{sheetPair}
+use Rattle.model.specs.Bench.{allBytes, brook, zeros, noWork, Line}
+
+-- document 01's brook with dt, its segments, M 4, the flow at the top, an outflow and a gauge, and then the flow rows behind their count
+unfoldable pub snow : (dt segments Q qout gauge : ℕ) → (rows : List ℕ) → List ℕ
+snow dt segments Q qout gauge rows =
+    otr2 ++ allBytes
+    (dt ∷ 10 ∷ 4 ∷ 1 ∷ Q ∷
+    1 ∷ segments ∷ 50 ∷ 100 ∷ 100 ∷ 0 ∷ 0 ∷ qout ∷ replicate 9 0 ++
+    1 ∷ 0 ∷ 0 ∷
+    1 ∷ gauge ∷ rows)
+
+-- a flow of 400 mL/s from step 1 on, and of 1,000 from step 3 on
+unfoldable pub melting : List ℕ
+melting = snow 1 2 0 0 1 (2 ∷ 1 ∷ 400 ∷ 3 ∷ 1000 ∷ [])
+
+-- the number of a refusal and that of its reach, segment or row, 0 for nothing; 0 and 0 where the loading is accepted
+abbrev pub refusedAt : {A : Type 0} → Outcome A → List ℕ
+refusedAt (accepted v) = 0 ∷ 0 ∷ []
+refusedAt (refused number nothing) = number ∷ 0 ∷ []
+refusedAt (refused number (reach i)) = number ∷ i ∷ []
+refusedAt (refused number (segment i)) = number ∷ i ∷ []
+refusedAt (refused number (row i)) = number ∷ i ∷ []
+
+-- where the flow rows of a sheet begin, and how many there are
+unfoldable pub flowRowsTold : List ℕ → List ℕ
+flowRowsTold sheet = loaded sheet .flowRowsAt ∷ loaded sheet .flowRows ∷ []
+
+-- a loading for flow r, into lists of two entries
+unfoldable pub loadingOf : List ℕ → (r : ℕ) → List ℕ
+loadingOf sheet r = refusedAt (loadAnswer sheet r 1 (zeros 2))
+
+-- the first segment's e in flow r's set
+unfoldable pub firstE : List ℕ → (r : ℕ) → ℕ
+firstE sheet r = getD (loadColumns sheet r 1 (zeros 2) .numbers .e) 0 0
+
+-- e of the first segment in the step from n to n + 1, on its old side and on its new
+unfoldable pub oldE : (n : ℕ) → ℕ
+oldE n = sheetPair melting n 0 .old .e
+
+unfoldable pub newE : (n : ℕ) → ℕ
+newE n = sheetPair melting n 0 .new .e
+
+-- a set of two segments, with this list of e
+unfoldable pub oldSetWith : List ℕ → NumberSet
+oldSetWith e = record {
+  e = e;
+  g = 50000000 ∷ 0 ∷ [];
+  l = 30000000 ∷ 20000000 ∷ [];
+  a = 70000000 ∷ 80000000 ∷ [];
+  b = 200000000 ∷ 100000000 ∷ [];
+  k = 10000000 ∷ 15000000 ∷ [];
+  ks = 20000000 ∷ 30000000 ∷ [];
+  h = 300000000 ∷ 200000000 ∷ [];
+  m = 40000000 ∷ 50000000 ∷ [];
+  s = 60000000 ∷ 70000000 ∷ [];
+}
+
+-- the old set of the step
+unfoldable pub oldSet : NumberSet
+oldSet = oldSetWith (100000000 ∷ 90000000 ∷ [])
+
+-- its new set, with CL and CB
+unfoldable pub newColumns : Columns
+newColumns = record {
+  numbers = record {
+    e = 160000000 ∷ 120000000 ∷ [];
+    g = 20000000 ∷ 0 ∷ [];
+    l = 10000000 ∷ 25000000 ∷ [];
+    a = 30000000 ∷ 40000000 ∷ [];
+    b = 150000000 ∷ 180000000 ∷ [];
+    k = 5000000 ∷ 8000000 ∷ [];
+    ks = 60000000 ∷ 10000000 ∷ [];
+    h = 100000000 ∷ 150000000 ∷ [];
+    m = 90000000 ∷ 20000000 ∷ [];
+    s = 20000000 ∷ 30000000 ∷ [];
+  };
+  cl = 5000000 ∷ 100000 ∷ [];
+  cb = 4000000 ∷ 250000 ∷ [];
+  kd = 0 ∷ 0 ∷ [];
+  start = 0 ∷ 0 ∷ [];
+}
+
+-- and a state
+unfoldable pub someState : State
+someState = record {
+  channel = 1000000 ∷ 2000000 ∷ [];
+  storage = 3000000 ∷ 500000 ∷ [];
+  sediment = 700000 ∷ 900000 ∷ [];
+  upstream = 2500000;
+  steps = 0;
+}
+
+-- what a step with this old set answers
+unfoldable pub steppingFrom : NumberSet → List ℕ
+steppingFrom old = refusedAt (stepAnswer 2 old newColumns someState (noWork 2) 1500000 1)
+
+-- the table
+unfoldable pub flowBench : List Line
+flowBench =
+    -- the flow in force at steps 0 to 4, and the pairs of steps 1 to 4: e is 1/4, 7/20 and 1/2 of one whole for the three flows
+    record { number = 1; given = map (flowInForce melting) (0 ∷ 1 ∷ 2 ∷ 3 ∷ 4 ∷ []); printed = 0 ∷ 1 ∷ 1 ∷ 2 ∷ 2 ∷ [] } ∷
+    record { number = 2; given = map oldE (0 ∷ 1 ∷ 2 ∷ 3 ∷ []); printed = 268435456 ∷ 375809638 ∷ 375809638 ∷ 536870912 ∷ [] } ∷
+    record { number = 3; given = map newE (0 ∷ 1 ∷ 2 ∷ 3 ∷ []); printed = 375809638 ∷ 375809638 ∷ 536870912 ∷ 536870912 ∷ [] } ∷
+    -- each flow's own set; "13 if past the rows", of OTR1 any but 0
+    record { number = 4; given = map (firstE melting) (0 ∷ 1 ∷ 2 ∷ []); printed = 268435456 ∷ 375809638 ∷ 536870912 ∷ [] } ∷
+    record { number = 5; given = loadingOf melting 2 ++ loadingOf melting 3; printed = 0 ∷ 0 ∷ 13 ∷ 0 ∷ [] } ∷
+    record { number = 6; given = loadingOf (brook 1 0 2 0) 0 ++ loadingOf (brook 1 0 2 0) 1; printed = 0 ∷ 0 ∷ 13 ∷ 0 ∷ [] } ∷
+    -- "where the flow rows begin and how many there are (both 0 in OTR1)"
+    record { number = 7; given = flowRowsTold melting ++ flowRowsTold (brook 1 0 2 0); printed = 116 ∷ 2 ∷ 0 ∷ 0 ∷ [] } ∷
+    -- a count of 0 and of 65; "checks 2 and 4 go by whichever section is last": no section, a row cut short, a field too many
+    record { number = 8; given = loadingOf (snow 1 2 0 0 1 (0 ∷ [])) 0 ++ loadingOf (snow 1 2 0 0 1 (65 ∷ [])) 0; printed = 3 ∷ 0 ∷ 3 ∷ 0 ∷ [] } ∷
+    record { number = 9; given = loadingOf (snow 1 2 0 0 1 []) 0 ++ loadingOf (snow 1 2 0 0 1 (1 ∷ 1 ∷ [])) 0; printed = 2 ∷ 0 ∷ 2 ∷ 0 ∷ [] } ∷
+    record { number = 10; given = loadingOf (snow 1 2 0 0 1 (1 ∷ 1 ∷ 0 ∷ 0 ∷ [])) 0; printed = 4 ∷ 0 ∷ [] } ∷
+    -- 16: a start of 0, above M, not rising, a flow above its range; "after 9"
+    record { number = 11; given = loadingOf (snow 1 2 0 0 1 (1 ∷ 0 ∷ 0 ∷ [])) 0; printed = 16 ∷ 1 ∷ [] } ∷
+    record { number = 12; given = loadingOf (snow 1 2 0 0 1 (2 ∷ 1 ∷ 0 ∷ 5 ∷ 0 ∷ [])) 0; printed = 16 ∷ 2 ∷ [] } ∷
+    record { number = 13; given = loadingOf (snow 1 2 0 0 1 (2 ∷ 2 ∷ 0 ∷ 2 ∷ 0 ∷ [])) 0; printed = 16 ∷ 2 ∷ [] } ∷
+    record { number = 14; given = loadingOf (snow 1 2 0 0 1 (1 ∷ 1 ∷ 100000001 ∷ [])) 0; printed = 16 ∷ 1 ∷ [] } ∷
+    record { number = 15; given = loadingOf (snow 1 2 0 0 3 (1 ∷ 0 ∷ 0 ∷ [])) 0; printed = 9 ∷ 1 ∷ [] } ∷
+    -- the top flow fails 11 at segment 1 and the row 10 at segment 2: "before the next check"; a row that fails 11, and one that fails 12
+    record { number = 16; given = loadingOf (snow 1 2 1001 4545 1 (1 ∷ 1 ∷ 0 ∷ [])) 0; printed = 10 ∷ 2 ∷ [] } ∷
+    record { number = 17; given = loadingOf (snow 1 2 0 0 1 (1 ∷ 1 ∷ 1001 ∷ [])) 0; printed = 11 ∷ 1 ∷ [] } ∷
+    record { number = 18; given = loadingOf (snow 3 1 0 0 1 (2 ∷ 1 ∷ 0 ∷ 2 ∷ 1000 ∷ [])) 0; printed = 12 ∷ 1 ∷ [] } ∷
+    -- the top flow fails 10 at segment 4, the row at segment 2: "the first flow at fault gives the place"
+    record { number = 19; given = loadingOf (snow 1 4 1 4545 1 (1 ∷ 1 ∷ 0 ∷ [])) 0; printed = 10 ∷ 4 ∷ [] } ∷
+    -- a step whose old set is short by an entry, and one whose T passes one whole in segment 2
+    record { number = 20; given = steppingFrom (oldSetWith (100000000 ∷ [])); printed = 13 ∷ 0 ∷ [] } ∷
+    record { number = 21; given = steppingFrom (oldSetWith (100000000 ∷ 1000000000 ∷ [])); printed = 14 ∷ 2 ∷ [] } ∷
+    -- the step: C', Z', W', p and y
+    record { number = 22; given = stepState 2 oldSet newColumns someState (noWork 2) 1500000 1 .channel; printed = 1454210 ∷ 1568422 ∷ [] } ∷
+    record { number = 23; given = stepState 2 oldSet newColumns someState (noWork 2) 1500000 1 .storage; printed = 2459965 ∷ 737443 ∷ [] } ∷
+    record { number = 24; given = stepState 2 oldSet newColumns someState (noWork 2) 1500000 1 .sediment; printed = 840935 ∷ 1161708 ∷ [] } ∷
+    record { number = 25; given = stepWorking 2 oldSet newColumns someState (noWork 2) 1500000 1 .p; printed = 16346061 ∷ 0 ∷ [] } ∷
+    record { number = 26; given = stepWorking 2 oldSet newColumns someState (noWork 2) 1500000 1 .y; printed = 1430333 ∷ 1568422 ∷ [] } ∷
+    []
+
+-- A step of the exact river worked out by hand, of one segment whose numbers differ on the two sides, in sixty-fourths of one whole
+unfoldable pub onePair : Pair
+onePair =
+    let part : ℕ → ℕ = λ k. k * 2 ^ 24 in
+    record {
+      old = record { e = part 16; g = part 4; l = part 8; a = part 12; b = part 10; k = part 5; ks = part 3; h = part 20; m = part 6; s = part 5 };
+      new = record { e = part 8; g = part 2; l = part 16; a = part 8; b = part 8; k = part 2; ks = part 4; h = part 16; m = part 4; s = part 4 };
+      cl = 2000;
+      cb = 400;
+    }
+
+-- C 400, Z 800 and W 1,000
+unfoldable pub oldFigures : ExactFigures
+oldFigures = record { c = whole 400; z = whole 800; w = whole 1000 }
+
+-- With U 1,000 and U' 3,000, in sixty-fourths: 104 C' − 8 × 3,000 − 8 Z' − 4 W' = 14 × 400 + 16 × 1,000 + 12 × 800 + 5 × 1,000 + 24 × 2,000,
+-- 80 Z' − 8 C' = 45 × 800 + 10 × 400 + 10 × 400 and 80 W' − 16 C' = 44 × 1,000 + 20 × 400. So C' 1,125, Z' 1,325/2 and W' 875.
+unfoldable pub newFractions : ExactFigures
+newFractions = record { c = whole 1125; z = record { num = pos 1325; den = 2; above = omega arith }; w = whole 875 }
+
+-- they solve the equations
+abbrev pub ExactBench : Type 0
+ExactBench = ExactStep 1000 3000 (onePair ∷ []) (oldFigures ∷ []) (newFractions ∷ [])
