@@ -249,7 +249,8 @@ struct yumbaqel_river {
     uint32_t upstream, done;
     struct yumbaqel_wide_list p, y;
     struct yumbaqel_loaded loaded;
-    const uint8_t *sheet;          /* as loaded; the caller keeps it as it is while rows, gauges, flows, dt or dx are asked for */
+    const uint8_t *sheet;          /* as loaded; the caller keeps it as it is while rows, gauges, dt or dx are asked for and, with flow rows, as long as
+                                      the river is stepped: a new sheet is to be read into other memory */
     size_t sheet_length;
     struct yumbaqel_list starts, concentrations;
     uint32_t rows;                 /* how many rows yumbaqel_river_rows has put into these two; 0 before */

@@ -855,9 +855,13 @@ def program_checks(path: str, full: bool) -> Iterator[Check]:
 
 
 def steady_checks(path: str) -> Iterator[Check]:
-    """What docs/SNOWMELT.md says of the intake, with the flow rows and without."""
+    """What docs/SNOWMELT.md says of the intake, with the flow rows and in one flow that gets as much salt."""
     document = (ROOT / "docs" / "SNOWMELT.md").read_text(encoding="utf-8")
     text = (EXAMPLES / "snowmelt.txt").read_text(encoding="utf-8").split("\nflow  from")[0]
+    released = f"~{(snowmelt.BACKGROUND + snowmelt.RELEASE * 1_000_000 / snowmelt.FLOWS[0]) / 1_000_000:.4f}"
+    for row in ("2         5     102", "4         16    34"):
+        text = text.replace(row, f"{row.rsplit(maxsplit=1)[0]} {released}")
+    yield Check("docs/SNOWMELT.md: the release", f"{released[1:]} mg/L in its `boundary` table" in document, True)
     steady = printed(path, sheet_text.make(text).sheet).decode()
     tables = [shown(listing, sheet=EXAMPLES / "snowmelt.otr", clock=0.0, limit=curves.limit_figure("8 mg/L"))
               for listing in (stored("snowmelt"), steady)]

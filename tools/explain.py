@@ -493,7 +493,8 @@ def margins(made: list[Course]) -> Iterator[str]:
     """How near the river comes to what tests 11 and 12 allow, of all its flows; V and h do not depend on the flow."""
     def first_highest(margins: list[Margin]) -> tuple[str, str]:
         found = max(margins, key=lambda margin: margin.part)
-        flow = "" if len(made) == 1 else f", flow row {found.row}" if found.row else ", the top flow"
+        same = len({share(margin.part) for margin in margins}) == 1
+        flow = "" if same else f", flow row {found.row}" if found.row else ", the top flow"
         return share(found.part), f"(segment {found.segment}{flow})"
 
     part, place = first_highest([course.face for course in made])

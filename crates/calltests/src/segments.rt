@@ -179,7 +179,7 @@ fn numbers_at_fault(
     i
 }
 
-// The same for a set of any lengths: n where one of its lists is shorter, which 13 finds.
+// The same for any count and lengths: n where 13 finds fault with them, so that nothing is read.
 pub fn set_at_fault(
     n: usize,
     e: &[u32],
@@ -193,8 +193,11 @@ pub fn set_at_fault(
     m: &[u32],
     s: &[u32],
 ) -> usize
-    ensures { λ r. ⌜ r ≡ cond (anyShorter n (setLists (set entry e g l a b k ks h m s))) n (lowest n (oldFault n (set entry e g l a b k ks h m s))) ⌝ }
+    ensures { λ r. ⌜ r ≡ cond (riverFault n (setLists (set entry e g l a b k ks h m s))) n (lowest n (oldFault n (set entry e g l a b k ks h m s))) ⌝ }
 {
+    if outside(1, MOST_SEGMENTS, n as u64) {
+        return n;
+    }
     if set_short(n, e, g, l, a, b, k, ks, h, m, s) {
         return n;
     }

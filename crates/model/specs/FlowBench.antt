@@ -50,10 +50,11 @@ loadingOf sheet r = refusedAt (loadAnswer sheet r 1 (zeros 2))
 unfoldable pub firstE : List ℕ → (r : ℕ) → ℕ
 firstE sheet r = getD (loadColumns sheet r 1 (zeros 2) .numbers .e) 0 0
 
--- e of the first segment in the step from n to n + 1, on its old side and on its new
+-- e of the first segment in the step from n to n + 1, on its old side
 unfoldable pub oldE : (n : ℕ) → ℕ
 oldE n = sheetPair melting n 0 .old .e
 
+-- and on its new side
 unfoldable pub newE : (n : ℕ) → ℕ
 newE n = sheetPair melting n 0 .new .e
 

@@ -64,7 +64,7 @@ pub record PairAsLoaded (sheet : List ℕ) (n : ℕ) (old : NumberSet) (lent : L
   pub before : SetFor sheet (flowInForce sheet n) (lent .count) old
   pub after : LoadedFor sheet (flowInForce sheet (suc n)) lent
 
--- what a call of the run is lent, from a state with this count of steps
+-- what a call of the run is lent in this state
 abbrev pub LentFrom : List ℕ → State → Call → Type 0
 LentFrom sheet state (start lent u) = AsLoaded sheet lent
 LentFrom sheet state (step old lent working u′ M) = PairAsLoaded sheet (state .steps) old lent
@@ -121,7 +121,7 @@ sheetPair sheet n i =
 abbrev pub sheetPairs : List ℕ → (n : ℕ) → List Pair
 sheetPairs sheet n = tab 0 (segmentCount sheet) (sheetPair sheet n)
 
--- one event on the sheet's river; its start figures and Kd are those of any flow, so those of the flow at the top are taken
+-- one event on the sheet's river; start figures are the same for every flow, and those of the flow at the top are taken
 pub data ExactEvent (sheet : List ℕ) : Event → Exact → Exact → Type 0 where
   -- "An accepted start sets n to 0, C, Z and W of each segment to its start figure, and U to the one handed."
   starts : {u : ℕ} {q : Exact} →

@@ -1,6 +1,6 @@
 -- A step's outcome, from what its tests find.
 use mathlib.Core.Path.{_≡_, refl, sym, _∙_}
-use mathlib.Core.Bool.{Bool, true, false, cond, _||_}
+use mathlib.Core.Bool.{Bool, true, false, cond, _||_, true≢false}
 use mathlib.Core.List.{List, [], _∷_, _++_}
 use Prim.Native.Nat.{ℕ, _+_, _<_, _≤_}
 use native.Mathlib.Numerals.{add-one}
@@ -99,6 +99,12 @@ others-last false false true working = refl
 others-last false false false true = refl
 others-last false false false false = refl
 
+set-decides : (range set river working : Bool) → (range || set) ≡ true → (range || river || (working || set)) ≡ true
+set-decides true set river working e = refl
+set-decides false true true working e = refl
+set-decides false true false working e = or-true working
+set-decides false false river working e = absurd (true≢false (sym e))
+
 -- what the sweep is lent of the new set's lists, and of the state
 abbrev without : Columns → Columns
 without x =
@@ -109,7 +115,7 @@ abbrev still : State → State
 still s = Lent.state plain (s .channel) (s .storage) (s .sediment) (s .upstream) 0
 
 module _ (n : ℕ) (old : NumberSet) (x : Columns) (state : State) (lent : Working) (u′ M : ℕ) (unfit : Bool) (is : unfit ≡ anyShorter n (lent .p ∷ lent .y ∷ setLists old))
-    (other : ℕ) (low : other ≡ cond (anyShorter n (setLists old)) n (lowest n (oldFault n old)))
+    (other : ℕ) (low : other ≡ cond (riverFault n (setLists old)) n (lowest n (oldFault n old)))
     (finding : Finding) (found : finding ≡ first (stateTests n x state unfit other u′ M)) where
   behind : unfit ≡ (anyShorter n (lent .p ∷ lent .y ∷ []) || anyShorter n (setLists old))
   behind = is ∙ shorter-both n (lent .p ∷ lent .y ∷ []) (setLists old)
@@ -120,17 +126,21 @@ module _ (n : ℕ) (old : NumberSet) (x : Columns) (state : State) (lent : Worki
       rw (shorter-both n (setLists old) (columnLists x ++ stateLists state ++ lent .p ∷ lent .y ∷ []), shorter-both n (columnLists x ++ stateLists state) (lent .p ∷ lent .y ∷ []), behind)
       (others-last (outside (1 to mostSegments) n) (anyShorter n (setLists old)) (anyShorter n (columnLists x ++ stateLists state)) (anyShorter n (lent .p ∷ lent .y ∷ [])))
 
-  -- where a list of the old set is too short, 13 says so, whatever 14 finds
-  same-tests : (short : Bool) → anyShorter n (setLists old) ≡ short →
+  -- where 13 finds fault with the count or with a list of the old set, it says so, whatever 14 finds
+  refused-13 : riverFault n (setLists old) ≡ true → (riverFault n (columnLists x ++ stateLists state) || unfit) ≡ true
+  unfolding riverFault
+  refused-13 e =
+      rw behind
+      (set-decides (outside (1 to mostSegments) n) (anyShorter n (setLists old)) (anyShorter n (columnLists x ++ stateLists state)) (anyShorter n (lent .p ∷ lent .y ∷ [])) e)
+
+  same-tests : (fault : Bool) → riverFault n (setLists old) ≡ fault →
       first (stateTests n x state unfit other u′ M ++ (test 15 (leb M (state .steps)) ∷ [])) ≡ first (stepTests n old x state lent u′ M)
   unfolding stateTests stepTests
-  same-tests true e =
-      let t : unfit ≡ true = behind ∙ rw e (or-true (anyShorter n (lent .p ∷ lent .y ∷ []))) in
-      rw (river-all, t, or-true (riverFault n (columnLists x ++ stateLists state)))
+  same-tests true e = rw (river-all, refused-13 e)
   same-tests false e = rw (river-all, low, e, lowest-either (oldFault n old) (stateFault n x state) n)
 
   step-tests : first (finding ∷ test 15 (leb M (state .steps)) ∷ []) ≡ first (stepTests n old x state lent u′ M)
-  step-tests = rw found (first-first (stateTests n x state unfit other u′ M) (test 15 (leb M (state .steps))) ∙ same-tests (anyShorter n (setLists old)) refl)
+  step-tests = rw found (first-first (stateTests n x state unfit other u′ M) (test 15 (leb M (state .steps))) ∙ same-tests (riverFault n (setLists old)) refl)
 
   pub step-refused : (number : ℕ) (place : Code.Place) → first (finding ∷ test 15 (leb M (state .steps)) ∷ []) ≡ fails number (placeSays place) →
       StepOutcome n old x state lent u′ M (Refused number place) state lent
@@ -147,8 +157,12 @@ module _ (n : ℕ) (old : NumberSet) (x : Columns) (state : State) (lent : Worki
     others : (anyShorter n (lent .p ∷ lent .y ∷ []) ≡ false) × (anyShorter n (setLists old) ≡ false)
     others = neither (anyShorter n (lent .p ∷ lent .y ∷ [])) (anyShorter n (setLists old)) (sym behind ∙ known .fit)
 
+    set-clear : riverFault n (setLists old) ≡ false
+    unfolding riverFault
+    set-clear = rw (neither (outside (1 to mostSegments) n) (anyShorter n (columnLists x ++ stateLists state)) (known .river) .0, others .1)
+
     old-clear : (i : ℕ) → i < n → oldFault n old i ≡ false
-    old-clear = none-at-fault (oldFault n old) n (omega (arith, known .others, rw (others .1) at low))
+    old-clear = none-at-fault (oldFault n old) n (omega (arith, known .others, rw set-clear at low))
 
     segments : (i : ℕ) → i < n → (startFault n x i ≡ false) × (figureFault (figuresAt state i) ≡ false)
     unfolding stateFault

@@ -407,7 +407,7 @@ fn take_flow(sheet: &[u8], held: u32, flow: u32, columns: &mut [u32]) {
     }
 }
 
-// Behind the step in which a flow began to hold, its set is the old one.
+// After the step in which a flow began to hold, its set is the old one.
 fn keep_flow(held: u32, flow: u32, columns: &[u32], old: &mut [u32]) {
     if flow != held {
         copy_columns(columns, old);
