@@ -2,8 +2,8 @@
 use native.Mathlib.Omega.{arith}
 use borrow.Author.Needs.{needs}
 use lib.Dec.{lit≤}
-use Rattle.river.proofs.report.Statement.{statement}
-use Rattle.river.proofs.report.Tie as tie
+use Rattle.river.proofs.columns.report.Statement.{statement}
+use Rattle.river.proofs.columns.report.Tie as tie
 
 pub report-spec : {M : Type 1} → statement M
 report-spec =

@@ -1,8 +1,8 @@
 -- `put_lists` is safe: each list that is put into the columns leaves their length.
 use native.Mathlib.Omega.{arith}
 use borrow.Author.Needs.{needs}
-use Rattle.river.proofs.put_lists.Statement.{statement}
-use Rattle.river.proofs.put_lists.Tie as tie
+use Rattle.river.proofs.columns.put_lists.Statement.{statement}
+use Rattle.river.proofs.columns.put_lists.Tie as tie
 
 same-length : tie.Need-same-length
 same-length c =

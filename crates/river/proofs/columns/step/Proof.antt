@@ -2,8 +2,8 @@
 use native.Mathlib.Omega.{arith}
 use borrow.Author.Needs.{needs}
 use lib.Dec.{lit≤}
-use Rattle.river.proofs.step.Statement.{statement}
-use Rattle.river.proofs.step.Tie as tie
+use Rattle.river.proofs.columns.step.Statement.{statement}
+use Rattle.river.proofs.columns.step.Tie as tie
 
 pub step-spec : {M : Type 1} → statement M
 step-spec =

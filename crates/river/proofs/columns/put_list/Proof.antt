@@ -4,8 +4,8 @@ use Prim.Native.Nat.{_-_, _≤_}
 use lib.ListN.{length}
 use native.Mathlib.Omega.{arith}
 use borrow.Author.Needs.{needs}
-use Rattle.river.proofs.put_list.Statement.{statement}
-use Rattle.river.proofs.put_list.Tie as tie
+use Rattle.river.proofs.columns.put_list.Statement.{statement}
+use Rattle.river.proofs.columns.put_list.Tie as tie
 
 abbrev Inv-loop : tie.InvT-loop
 Inv-loop list columns₀ k i₀ columns i = (length columns ≡ length columns₀) × (i ≤ length list)

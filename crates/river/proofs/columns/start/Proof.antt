@@ -2,8 +2,8 @@
 use native.Mathlib.Omega.{arith}
 use borrow.Author.Needs.{needs}
 use lib.Dec.{lit≤}
-use Rattle.river.proofs.start.Statement.{statement}
-use Rattle.river.proofs.start.Tie as tie
+use Rattle.river.proofs.columns.start.Statement.{statement}
+use Rattle.river.proofs.columns.start.Tie as tie
 
 pub start-spec : {M : Type 1} → statement M
 start-spec =

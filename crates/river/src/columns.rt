@@ -1,0 +1,310 @@
+// What the program holds of a flow, and the calls on it.
+use assembly::Load;
+use loading::load_lists;
+use otis::Report;
+use otis::River;
+use otis::Start;
+use otis::Step;
+use terms::Place;
+
+// The most segments that a sheet can have.
+pub const SEGMENTS: usize = River::SEGMENTS as usize;
+
+// The fourteen lists of a loading stand behind one another in one list, `columns`, each with room for the most segments: the ten half-step
+// numbers e to s, CL, CB, Kd and the start figures. So a river holds two sets in two lists, and the k-th list of one stands from Ck on.
+const C0: usize = 0;
+
+const C1: usize = 1 * SEGMENTS;
+
+const C2: usize = 2 * SEGMENTS;
+
+const C3: usize = 3 * SEGMENTS;
+
+const C4: usize = 4 * SEGMENTS;
+
+const C5: usize = 5 * SEGMENTS;
+
+const C6: usize = 6 * SEGMENTS;
+
+const C7: usize = 7 * SEGMENTS;
+
+const C8: usize = 8 * SEGMENTS;
+
+const C9: usize = 9 * SEGMENTS;
+
+const C10: usize = 10 * SEGMENTS;
+
+const C11: usize = 11 * SEGMENTS;
+
+const C12: usize = 12 * SEGMENTS;
+
+const C13: usize = 13 * SEGMENTS;
+
+pub const C14: usize = 14 * SEGMENTS;
+
+// A list over the columns from place k on, as far as they reach.
+fn put_list(list: &[u32], columns: &mut [u32], k: usize) {
+    let mut i: usize = 0;
+    while i < list.len() {
+        if columns.len() <= k {
+            return;
+        }
+        if columns.len() - k <= i {
+            return;
+        }
+        columns[k + i] = list[i];
+        i += 1;
+    }
+}
+
+// The fourteen lists of a loading, into the columns.
+fn put_lists(
+    e: &[u32],
+    g: &[u32],
+    l: &[u32],
+    a: &[u32],
+    b: &[u32],
+    k: &[u32],
+    ks: &[u32],
+    h: &[u32],
+    m: &[u32],
+    s: &[u32],
+    cl: &[u32],
+    cb: &[u32],
+    kd: &[u32],
+    start: &[u32],
+    columns: &mut [u32],
+) {
+    put_list(e, &mut columns[..], C0);
+    put_list(g, &mut columns[..], C1);
+    put_list(l, &mut columns[..], C2);
+    put_list(a, &mut columns[..], C3);
+    put_list(b, &mut columns[..], C4);
+    put_list(k, &mut columns[..], C5);
+    put_list(ks, &mut columns[..], C6);
+    put_list(h, &mut columns[..], C7);
+    put_list(m, &mut columns[..], C8);
+    put_list(s, &mut columns[..], C9);
+    put_list(cl, &mut columns[..], C10);
+    put_list(cb, &mut columns[..], C11);
+    put_list(kd, &mut columns[..], C12);
+    put_list(start, &mut columns[..], C13);
+}
+
+// A loading for this flow, into the columns.
+pub fn load(sheet: &[u8], flow: u32, columns: &mut [u32]) -> Load {
+    let mut e = [0u32; SEGMENTS];
+    let mut g = [0u32; SEGMENTS];
+    let mut l = [0u32; SEGMENTS];
+    let mut a = [0u32; SEGMENTS];
+    let mut b = [0u32; SEGMENTS];
+    let mut k = [0u32; SEGMENTS];
+    let mut ks = [0u32; SEGMENTS];
+    let mut h = [0u32; SEGMENTS];
+    let mut m = [0u32; SEGMENTS];
+    let mut s = [0u32; SEGMENTS];
+    let mut cl = [0u32; SEGMENTS];
+    let mut cb = [0u32; SEGMENTS];
+    let mut kd = [0u32; SEGMENTS];
+    let mut start = [0u32; SEGMENTS];
+    let answer = load_lists(
+        sheet,
+        flow,
+        &mut e,
+        &mut g,
+        &mut l,
+        &mut a,
+        &mut b,
+        &mut k,
+        &mut ks,
+        &mut h,
+        &mut m,
+        &mut s,
+        &mut cl,
+        &mut cb,
+        &mut kd,
+        &mut start,
+    );
+    put_lists(
+        &e,
+        &g,
+        &l,
+        &a,
+        &b,
+        &k,
+        &ks,
+        &h,
+        &m,
+        &s,
+        &cl,
+        &cb,
+        &kd,
+        &start,
+        columns,
+    );
+    answer
+}
+
+// The columns of one flow over those of another.
+pub fn copy_columns(from: &[u32], to: &mut [u32]) {
+    put_list(from, to, C0);
+}
+
+// A start, in the columns of a flow; a refusal, which no accepted sheet meets, leaves the river where it is.
+pub fn start(
+    segments: u32,
+    columns: &[u32],
+    channel: &mut [u32],
+    storage: &mut [u32],
+    sediment: &mut [u32],
+    u: u32,
+) -> River {
+    let none = River {
+        upstream: 0,
+        steps: 0,
+    };
+    if columns.len() < C14 {
+        return none;
+    }
+    let started = River::start(
+        segments,
+        &columns[C0..C1],
+        &columns[C1..C2],
+        &columns[C2..C3],
+        &columns[C3..C4],
+        &columns[C4..C5],
+        &columns[C5..C6],
+        &columns[C6..C7],
+        &columns[C7..C8],
+        &columns[C8..C9],
+        &columns[C9..C10],
+        &columns[C10..C11],
+        &columns[C11..C12],
+        &columns[C12..C13],
+        &columns[C13..C14],
+        channel,
+        storage,
+        sediment,
+        u,
+    );
+    match started {
+        Start::Started(river) => river,
+        Start::Refused(_, _) => none,
+    }
+}
+
+// The river after a step; a refusal, which no accepted sheet meets, leaves it where it is.
+fn after(stepped: Step, before: River) -> River {
+    match stepped {
+        Step::Stepped(river) => river,
+        Step::Refused(_, _) => before,
+    }
+}
+
+// A step, its old side in the columns of one flow and its new side in those of another; a refusal, which no accepted sheet meets, leaves the
+// river where it is.
+pub fn step(
+    river: River,
+    segments: u32,
+    old: &[u32],
+    columns: &[u32],
+    channel: &mut [u32],
+    storage: &mut [u32],
+    sediment: &mut [u32],
+    p: &mut [u64],
+    y: &mut [u64],
+    u: u32,
+    steps: u32,
+) -> River {
+    if old.len() < C14 {
+        return river;
+    }
+    if columns.len() < C14 {
+        return river;
+    }
+    let stepped = river.step(
+        segments,
+        &old[C0..C1],
+        &old[C1..C2],
+        &old[C2..C3],
+        &old[C3..C4],
+        &old[C4..C5],
+        &old[C5..C6],
+        &old[C6..C7],
+        &old[C7..C8],
+        &old[C8..C9],
+        &old[C9..C10],
+        &columns[C0..C1],
+        &columns[C1..C2],
+        &columns[C2..C3],
+        &columns[C3..C4],
+        &columns[C4..C5],
+        &columns[C5..C6],
+        &columns[C6..C7],
+        &columns[C7..C8],
+        &columns[C8..C9],
+        &columns[C9..C10],
+        &columns[C10..C11],
+        &columns[C11..C12],
+        &columns[C12..C13],
+        &columns[C13..C14],
+        channel,
+        storage,
+        sediment,
+        p,
+        y,
+        u,
+        steps,
+    );
+    after(stepped, river)
+}
+
+// The report of a segment, in the columns of a flow.
+pub fn report(
+    river: River,
+    segments: u32,
+    columns: &[u32],
+    channel: &[u32],
+    storage: &[u32],
+    sediment: &[u32],
+    segment: u32,
+) -> Report {
+    if columns.len() < C14 {
+        return Report::Refused(13, Place::Nothing);
+    }
+    river.report(
+        segments,
+        &columns[C0..C1],
+        &columns[C1..C2],
+        &columns[C2..C3],
+        &columns[C3..C4],
+        &columns[C4..C5],
+        &columns[C5..C6],
+        &columns[C6..C7],
+        &columns[C7..C8],
+        &columns[C8..C9],
+        &columns[C9..C10],
+        &columns[C10..C11],
+        &columns[C11..C12],
+        &columns[C12..C13],
+        &columns[C13..C14],
+        channel,
+        storage,
+        sediment,
+        segment,
+    )
+}
+
+// Where another flow is in force than the one held, its set is loaded; the sheet was accepted, and so is this loading.
+pub fn take_flow(sheet: &[u8], held: u32, flow: u32, columns: &mut [u32]) {
+    if flow != held {
+        load(sheet, flow, columns);
+    }
+}
+
+// After the step in which a flow began to hold, its set is the old one.
+pub fn keep_flow(held: u32, flow: u32, columns: &[u32], old: &mut [u32]) {
+    if flow != held {
+        copy_columns(columns, old);
+    }
+}
