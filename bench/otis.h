@@ -74,7 +74,8 @@ static u32 load(const struct set *set, const struct lists *to, u32 flow) {
     int64_t gain = 0;
     for (u32 i = 0; i < n; i++) {
         u32 r = own[i], above = own[i == 0 ? 0 : i - 1], below = own[i + 1 == n ? i : i + 1];
-        int64_t down = gain >= 0 ? gain / 100000 : -1 - (-1 - gain) / 100000;
+        int64_t net = ((int64_t)reach(r, QIN) - (int64_t)reach(r, QOUT)) * (int64_t)dx, twice = 2 * gain + net;
+        int64_t down = twice >= 0 ? twice / 200000 : -1 - (-1 - twice) / 200000;
         u64 q = (u64)((int64_t)top + down);
         u64 ad = (u64)reach(r, AREA) * reach(r, DISPERSION);
         u64 ad_above = (u64)reach(above, AREA) * reach(above, DISPERSION);
@@ -94,7 +95,7 @@ static u32 load(const struct set *set, const struct lists *to, u32 flow) {
         to->cb[i] = reach(r, CB);
         to->kd[i] = reach(r, KD);
         to->start[i] = reach(r, START);
-        gain += ((int64_t)reach(r, QIN) - (int64_t)reach(r, QOUT)) * (int64_t)dx;
+        gain += net;
     }
     return n;
 }

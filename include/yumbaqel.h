@@ -2,7 +2,8 @@
  * Yumbaqel: the OTIS river inside an intake gate controller, for C99 and C++.
  *
  * Link libyumbaqel.a, which `rt staticlib yumbaqel` writes (docs/C.md). Every function below is total: it takes any bytes, figures and
- * lengths, and its outcome is proved to be the one that documents 01 (docs/01-scope.md) and 02 (docs/02-change-requests.md, 1) set out.
+ * lengths, and its outcome is proved to be the one that documents 01 (docs/01-scope.md) and 02 (docs/02-change-requests.md, 1 and 2)
+ * set out.
  *
  * What the caller owes, for every function:
  *   - each pointer is not null and aligned for what it points at, also where its length is 0;
@@ -28,7 +29,7 @@
 extern "C" {
 #endif
 
-#define YUMBAQEL_VERSION 20000           /* of this header, 2.0.0: major x 10,000 + minor x 100 + patch */
+#define YUMBAQEL_VERSION 20100           /* of this header, 2.1.0: major x 10,000 + minor x 100 + patch */
 #define YUMBAQEL_SCALE 1073741824        /* one whole, 2^30 */
 #define YUMBAQEL_HIGHEST 1000000000      /* the highest concentration, ng/L */
 #define YUMBAQEL_MOST_SEGMENTS 1024

@@ -4,6 +4,7 @@ Program `river` cannot show these from outside: they hold the model to the docum
 """
 from __future__ import annotations
 
+import math
 import random
 from collections.abc import Callable, Iterator
 from fractions import Fraction
@@ -52,8 +53,8 @@ def bench_figures() -> Iterator[Check]:
     yield Check("T1", model.parts(1, 3), 357_913_941)
     yield Check("T2", model.parts(1, 2 ** 31), 1)
     yield Check("T3", model.parts(0, 1), 0)
-    yield Check("T4", gains(3)[1], -46)
-    yield Check("T5", gains(3)[2], -91)
+    yield Check("T4", gains(3)[1], -69)
+    yield Check("T5", gains(3)[2], -114)
     full = sheets.brook(dt=2, Q=1_000)
     yield Check("T6, e", top_river(full)[0].numbers.e, ONE_WHOLE)
     yield Check("T6", answer(full), ACCEPTED)
@@ -64,8 +65,8 @@ def bench_figures() -> Iterator[Check]:
     swept = model.sweep(pairs(river, river), [0, 0], [0, 0], [0, 0], 3_000, 3_000)
     yield Check("T10", swept.C, [1_035, 207])
     yield Check("T11", swept.p[0], 178_956_971)
-    yield Check("slope with 46", answer(sheets.slope(46, 2)), ACCEPTED)
-    yield Check("slope with 45", answer(sheets.slope(45, 2)), (10, ("segment", 2)))
+    yield Check("slope with 69", answer(sheets.slope(69, 2)), ACCEPTED)
+    yield Check("slope with 68", answer(sheets.slope(68, 2)), (10, ("segment", 2)))
     yield Check("1,024 segments", answer(sheets.still_reaches(1_024)), ACCEPTED)
     yield Check("1,025 segments", answer(sheets.still_reaches(1_024, 1)), (7, None))
     yield Check("the listing", model.listing(sheets.write(sheets.listing_draft())), sheets.LISTING)
@@ -322,6 +323,47 @@ def flow_in_force_tests() -> Iterator[Check]:
     yield check("the mark alone", model.FLOW_MARK, 5, 0)
 
 
+def lateral_bench() -> Iterator[Check]:
+    """The lines of the proved table LateralBench (crates/model/specs), and flows beside the same in fractions."""
+    for top, segment in ((22, 1), (23, 2)):
+        yield Check(f"lateral bench: {top} at the top", answer(sheets.slope(top, 2)), (10, ("segment", segment)))
+    yield Check("lateral bench: outflow", gains(6), [-23, -69, -114, -160, -205, -250])
+    slope = sheets.slope(1_000, 3)
+    reach = slope.reaches[0]
+    for name, dx, reaches, wanted in (
+            ("inflow", 1_000, [reach._replace(qin=4_545, qout=0)], [1_022, 1_068, 1_113]),
+            ("fed below", 1_000, [reach._replace(segments=1), reach._replace(segments=2, qin=30_100, qout=0)],
+             [977, 1_105, 1_406]),
+            ("an odd sum", 409, [reach._replace(segments=1, qin=11, qout=500)], [998])):
+        found = model.flows(slope.header._replace(dx=dx), model.reach_of_segments(reaches))
+        yield Check(f"lateral bench: {name}", found, wanted)
+    river = top_river(sheets.slope(1_000, 2).with_header(dt=100))
+    yield Check("lateral bench: e and g", [(part.numbers.e, part.numbers.g) for part in river],
+                [(79_913_235, 27_460_947), (78_678_432, 0)])
+    rng = random.Random("lateral")
+    for _ in range(200):
+        draft = sheets.draw_river(rng, rng.randint(1, 30), 1)
+        found = model.flows(draft.header, model.reach_of_segments(draft.reaches))
+        wanted = [math.floor(draft.header.top_flow + gain) for gain in sheets.middle_gains(draft)]
+        yield Check(f"flows at the middle: {sheets.describe(draft)}", found, wanted)
+
+
+def clamp_tests() -> Iterator[Check]:
+    """The extreme river that shows where the clamp stands: inside the upward pass it would give other figures."""
+    draft = sheets.above_the_highest()
+    river = top_river(draft)
+    C = Z = W = [part.start for part in river]
+    apart = False
+    for _ in range(draft.header.M):
+        swept = model.sweep(pairs(river, river), C, Z, W, HIGHEST, HIGHEST)
+        inside = min(HIGHEST, swept.y[-1])
+        for p, y, figure in list(zip(swept.p, swept.y, swept.C))[-2::-1]:
+            inside = min(HIGHEST, y + model.nearest(p * inside, ONE_WHOLE))
+            apart = apart or inside != figure
+        C, Z, W = swept.C, swept.Z, swept.W
+    yield Check("C' above the highest inside the upward pass shows", apart, True)
+
+
 def flow_bench() -> Iterator[Check]:
     """The step of the proved table FlowBench (crates/model/specs), and its flows and pairs."""
     old = [Numbers(100_000_000, 50_000_000, 30_000_000, 70_000_000, 200_000_000, 10_000_000, 20_000_000, 300_000_000,
@@ -435,5 +477,7 @@ def checks() -> Iterator[Check]:
     yield from flow_in_force_tests()
     yield from upstream_tests()
     yield from flow_bench()
+    yield from lateral_bench()
+    yield from clamp_tests()
     yield from pair_tests()
     yield from bracket_tests()

@@ -1,20 +1,22 @@
 """The same river in floating point, by two schemes, for comparison with a listing.
 
-    python3 tests/float_river.py SHEET.otr LISTING    how far a listing lies from document 01's equations
+    python3 tests/float_river.py SHEET.otr LISTING    how far a listing lies from the documents' equations
     python3 tests/float_river.py --report             the report's printed output (figure 13) and the scheme that
-                                                      gives it; application 1 by it beside the stored listing
+                                                      gives it; application 1 by it beside the stored listing,
+                                                      and what the place where flow is taken makes of it
 
-No figure is rounded to ng/L here: every number is a 64-bit float.  DOCUMENT is document 01's scheme, EXACT the
-same with half-step numbers in whole parts of 2^30.  REPORT is that of OTIS, USGS WRIR 98-4018: the boundary
-concentration stands on the face above segment 1 (equations B10 to B14), area and dispersion are averaged singly
-at a face (equation B2), flow is taken at a segment's middle, and a boundary value counts from the step that
-begins at its time.  A flow row, which the report does not have, holds from the new side of its step in all of them.
+No figure is rounded to ng/L here: every number is a 64-bit float.  DOCUMENT is document 01's scheme with flow at a
+segment's middle (document 02, 2), EXACT the same with half-step numbers in whole parts of 2^30.  REPORT is that of
+OTIS, USGS WRIR 98-4018: the boundary concentration stands on the face above segment 1 (equations B10 to B14), area
+and dispersion are averaged singly at a face (equation B2), flow is taken at a segment's middle and not rounded, and
+a boundary value counts from the step that begins at its time.  A flow row, which the report does not have, holds
+from the new side of its step in all of them.
 """
 from __future__ import annotations
 
 import argparse
 import math
-from collections.abc import Iterator
+from collections.abc import Iterable, Iterator
 from dataclasses import replace
 from itertools import product
 from pathlib import Path
@@ -40,19 +42,23 @@ class Scheme(NamedTuple):
 
 
 SEARCHED = ("boundary_on_face", "late_rows", "faces_of_means")
-CHOICES = (*SEARCHED, "middle_flow")
-DOCUMENT = Scheme(False, False, False, False, True, False)
-EXACT = DOCUMENT._replace(whole_parts=True)                 # document 01's exact river
+DOCUMENT = Scheme(False, False, True, False, True, False)
+EXACT = DOCUMENT._replace(whole_parts=True)                 # the documents' exact river
 REPORT = Scheme(True, True, True, True, False, False)
+FLOWS = {                                                   # the report's scheme with flows taken otherwise
+    "upper end, rounded down": REPORT._replace(middle_flow=False, whole_flows=True),    # document 01 without request 2
+    "upper end": REPORT._replace(middle_flow=False),
+    "middle, rounded down": REPORT._replace(whole_flows=True),                          # document 02, 2
+}
 
 
 def float_flows(header: Header, own: list[Reach], scheme: Scheme) -> list[float]:
-    if scheme.whole_flows:
-        return [float(flow) for flow in model.flows(header, own)]
-    found, gain = [], 0.0
+    found, gain = [], 0                                     # the gain, in parts of LATERAL
     for reach in own:
-        net = (reach.qin - reach.qout) * header.dx / model.LATERAL
-        found.append(header.top_flow + gain + (net / 2 if scheme.middle_flow else 0.0))
+        net = (reach.qin - reach.qout) * header.dx
+        twice = 2 * gain + net if scheme.middle_flow else 2 * gain
+        more = twice // (2 * model.LATERAL) if scheme.whole_flows else twice / (2 * model.LATERAL)
+        found.append(float(header.top_flow + more))
         gain += net
     return found
 
@@ -202,6 +208,8 @@ MG = 1_000_000                      # ng/L in a mg/L
 
 
 FIRST_HOUR = 8.25                   # the report's clock at step 0
+PRINT = 360                         # seconds between lines: PSTEP
+RISE = 5.0                          # mg/L that a front passes on its rise, between 3.7 and the peaks
 
 
 def with_step(found: Sheet, dt: int) -> Sheet:
@@ -240,8 +248,10 @@ def figure_13_lines(chloride: Sheet) -> Iterator[str]:
     for hour, figures in found.items():
         yield f"{hour:.2f}   {'  '.join(FIGURE_13[hour])}   {'  '.join(f'{figure:.6E}' for figure in figures)}"
     yield f"{agreeing(found)} of {3 * len(FIGURE_13)} figures agree in every digit"
-    for choice in CHOICES:
+    for choice in SEARCHED:
         yield f"  {agreeing(figure_13(chloride, other_choice(choice)))} with {choice} as in document 01"
+    for name, scheme in FLOWS.items():
+        yield f"  {agreeing(figure_13(chloride, scheme))} with flow at the {name}"
 
 
 def other_choice(choice: str) -> Scheme:
@@ -274,25 +284,69 @@ def peak(figures: dict[int, float]) -> Peak:
     return Peak(figures[second], FIRST_HOUR + second / 3600)
 
 
+def curves(chloride: Sheet, scheme: Scheme, dt: int, seconds: Iterable[int]) -> dict[int, dict[int, float]]:
+    """The channel at each gauge, in mg/L, by these seconds since step 0."""
+    river = FloatRiver(with_step(chloride, dt), scheme)
+    found: dict[int, dict[int, float]] = {gauge: {} for gauge in chloride.gauges}
+    for second in seconds:
+        while river.count * dt < second:
+            river.step()
+        for gauge in chloride.gauges:
+            found[gauge][second] = river.C[gauge - 1] / MG
+    return found
+
+
+def apart(one: dict[int, float], other: dict[int, float]) -> Peak:
+    """Where two curves are farthest apart."""
+    return peak({second: abs(one[second] - figure) for second, figure in other.items()})
+
+
 def application_1_lines(chloride: Sheet, listing: str, dt: int) -> Iterator[str]:
     """For each gauge the peak by the report's scheme and by the listing, and where the two are farthest apart."""
     printed: dict[int, dict[int, float]] = {gauge: {} for gauge in chloride.gauges}
     for line in listing.splitlines()[1:-1]:
         step, gauge, C, *_ = map(int, line.split())
         printed[gauge][step * chloride.header.dt] = C / MG
-    river = FloatRiver(with_step(chloride, dt), REPORT)
-    found: dict[int, dict[int, float]] = {gauge: {} for gauge in chloride.gauges}
-    for second in printed[chloride.gauges[0]]:
-        while river.count * dt < second:
-            river.step()
-        for gauge in chloride.gauges:
-            found[gauge][second] = river.C[gauge - 1] / MG
+    found = curves(chloride, REPORT, dt, printed[chloride.gauges[0]])
     yield f"gauge   by steps of {dt:3} s   the listing          farthest apart"
     for gauge in chloride.gauges:
-        one, other = peak(found[gauge]), peak(printed[gauge])
-        apart = peak({second: abs(found[gauge][second] - figure) for second, figure in printed[gauge].items()})
-        yield "   ".join([f"{gauge:3} m", *(f"{figure:7.4f} at {hour:5.2f} h" for figure, hour in
-                                            (one, other, apart))])
+        shown = peak(found[gauge]), peak(printed[gauge]), apart(found[gauge], printed[gauge])
+        yield "   ".join([f"{gauge:3} m", *(f"{figure:7.4f} at {hour:5.2f} h" for figure, hour in shown)])
+
+
+def flow_lines(chloride: Sheet, dt: int) -> Iterator[str]:
+    """How far the report's scheme moves, at each gauge, where its flow alone is taken otherwise."""
+    seconds = range(PRINT, chloride.header.M * chloride.header.dt + 1, PRINT)
+    found = curves(chloride, REPORT, dt, seconds)
+    others = [curves(chloride, scheme, dt, seconds) for scheme in FLOWS.values()]
+    yield "gauge   " + "   ".join(f"{name:>23}" for name in FLOWS)
+    for gauge in chloride.gauges:
+        far = [apart(found[gauge], other[gauge]) for other in others]
+        yield f"{gauge:3} m   " + "   ".join(f"{figure:12.6f} at {hour:5.2f} h" for figure, hour in far)
+
+
+def rise(figures: dict[int, float]) -> float:
+    """The second at which a curve first passes RISE, on a straight line between two of its figures."""
+    before = next(iter(figures))
+    for second, figure in figures.items():
+        if figure > RISE:
+            return second - (second - before) * (figure - RISE) / (figure - figures[before])
+        before = second
+    return math.inf
+
+
+def place_lines(chloride: Sheet) -> Iterator[str]:
+    """The documents' scheme with flow at the upper end and at the middle, beside the report's, every 36 s."""
+    seconds = range(36, chloride.header.M * chloride.header.dt + 1, 36)
+    report = curves(chloride, REPORT, 36, seconds)
+    places = [curves(chloride, DOCUMENT._replace(middle_flow=middle), chloride.header.dt, seconds)
+              for middle in (False, True)]
+    yield f"gauge   peak too low by, mg/L   {RISE} mg/L too early by, s   farthest apart, mg/L   (upper end, middle)"
+    for gauge in chloride.gauges:
+        figures = [[peak(report[gauge]).figure - peak(found[gauge]).figure for found in places],
+                   [rise(report[gauge]) - rise(found[gauge]) for found in places],
+                   [apart(report[gauge], found[gauge]).figure for found in places]]
+        yield f"{gauge:3} m   " + "   ".join(f"{upper:10.5f} {middle:10.5f}" for upper, middle in figures)
 
 
 def main() -> int:
@@ -305,14 +359,14 @@ def main() -> int:
         chloride = model.read_sheet((UVAS / "uvas-chloride.otr").read_bytes())
         listing = (UVAS / "uvas-chloride.listing").read_text()
         for lines in (figure_13_lines(chloride), search_lines(chloride), application_1_lines(chloride, listing, 180),
-                      application_1_lines(chloride, listing, 36)):
+                      application_1_lines(chloride, listing, 36), flow_lines(chloride, 36), place_lines(chloride)):
             print("\n".join(lines))
         return 0
     if not asked.listing:
         parser.error("a sheet and its listing, or --report")
     sheet, listing = command.given(asked.sheet), command.given_text(asked.listing)
-    for words, scheme in (("document 01's equations, nothing rounded but flows", DOCUMENT),
-                          ("document 01's exact river: half-step numbers rounded too", EXACT),
+    for words, scheme in (("the documents' equations, nothing rounded but flows", DOCUMENT),
+                          ("the documents' exact river: half-step numbers rounded too", EXACT),
                           ("the report's scheme", REPORT)):
         print(words)
         for name, far in zip(("channel", "storage", "sediment"), farthest(sheet, listing, scheme)):

@@ -61,7 +61,7 @@ def without_flow_rows() -> Iterator[Lent]:
     yield Lent(b"")                                             # 1
     yield Lent(b"OTR")
     yield Lent(UNKNOWN_MARK + sheet[len(MARK):])
-    for cut in range(len(MARK), len(sheet), 9):                 # 2, in every section
+    for cut in (*range(len(MARK), len(sheet), 15), offset(full, "count of reaches") + 1):   # 2, in every section
         yield Lent(sheet[:cut])
     for case in sheets.counted_sheets(full):                    # 3
         yield Lent(case.sheet)
@@ -75,7 +75,8 @@ def without_flow_rows() -> Iterator[Lent]:
     yield Lent(write(full.with_reach(0, segments=0).with_reach(1, segments=0)))
     for case in sheets.disordered_sheets(full):                 # 8 and 9
         yield Lent(case.sheet)
-    yield Lent(write(full.with_header(top_flow=0).with_reach(0, qin=0, qout=40_000)))       # 10
+    for top in (19, 20):                                        # 10
+        yield Lent(write(full.with_header(top_flow=top).with_reach(0, qin=0, qout=40_000)))
     yield Lent(write(full.with_reach(1, qin=100_000_000)))
     yield Lent(write(full.with_header(top_flow=100_000_000)))
     yield Lent(write(full.with_reach(1, D=0)))                  # 11
@@ -110,7 +111,7 @@ def with_flow_rows() -> Iterator[Lent]:
     for fault in sheets.flow_faults():                          # 10 to 12
         if len(fault.draft.flow_rows) < 3:
             yield Lent(write(fault.draft))
-    for draft in (sheets.falling(91, *[91] * (last - 1), 90), sheets.halving(100, *[0, 100] * (last // 2))):
+    for draft in (sheets.falling(114, *[114] * (last - 1), 113), sheets.halving(100, *[0, 100] * (last // 2))):
         yield Lent(write(draft), row=last)
     yield Lent(write(sheets.filling(0, 334)), row=2)            # 12 before 13
 

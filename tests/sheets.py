@@ -6,10 +6,12 @@ elsewhere the model says it.
 """
 from __future__ import annotations
 
+import math
 import random
 from collections.abc import Callable, Iterator
 from dataclasses import dataclass, field, replace
-from itertools import combinations
+from fractions import Fraction
+from itertools import accumulate, combinations
 from typing import NamedTuple, Optional
 
 import model
@@ -174,10 +176,9 @@ def bench_cases() -> Iterator[Case]:
     yield case("T8", brook(dt=2, Q=1_001), 11)
     yield case("T9", brook(dt=3, Q=1_001), 11)
     yield case("T10", two_segment_brook(), ACCEPTED)
-    yield case("slope, two segments, 46", slope(46, 2), ACCEPTED)
-    yield case("slope, two segments, 45", slope(45, 2), 10)
-    yield case("slope, three segments, 91", slope(91, 3), ACCEPTED)
-    yield case("slope, three segments, 90", slope(90, 3), 10)
+    for segments, least in ((1, 23), (2, 69), (3, 114), (6, 250)):
+        yield case(f"slope, {segments} segments, {least}", slope(least, segments), ACCEPTED)
+        yield case(f"slope, {segments} segments, {least - 1}", slope(least - 1, segments), 10)
     yield case("1,024 segments in one reach", still_reaches(1_024), ACCEPTED)
     yield case("1,024 segments in two reaches", still_reaches(1_000, 24), ACCEPTED)
     yield case("1,025 segments in two reaches", still_reaches(1_024, 1), 7)
@@ -499,6 +500,13 @@ def one_reach(dt: int, dx: int, Q: int, rows: list[Row], **reach: int) -> Draft:
     return replace(draft, gauges=list(range(1, draft.segments + 1)))
 
 
+def above_the_highest() -> Draft:
+    """Found by search: C' is above the highest figure inside the upward pass, and the figure above it shows that."""
+    return one_reach(675, 358, 62_441, [Row(0, HIGHEST), Row(14, HIGHEST)], segments=10, D=160, A=143_216,
+                     AS=164, ALPHA=3_217, qin=882_067, LAMHAT=1_407_407, RHO=102_925, Kd=1, CL=HIGHEST,
+                     CB=HIGHEST, start=HIGHEST)
+
+
 def extreme_rivers() -> Iterator[Case]:
     """Named rivers at the ends of ranges and tests, each with what it must give."""
     def case(name: str, draft: Draft, number: int = ACCEPTED) -> Case:
@@ -522,10 +530,7 @@ def extreme_rivers() -> Iterator[Case]:
                one_reach(2, 10, 0, high, D=30, LAMHAT=HIGHEST_RATE, RHO=2, Kd=1, start=HIGHEST))
 
     # the highest figure is kept to when the upward pass is over, not inside it
-    yield case("C' above the highest inside the upward pass",
-               one_reach(675, 358, 64_007, [Row(0, HIGHEST), Row(14, HIGHEST)], segments=10, D=160, A=143_216,
-                         AS=164, ALPHA=3_217, qin=882_067, LAMHAT=1_407_407, RHO=102_925, Kd=1, CL=HIGHEST,
-                         CB=HIGHEST, start=HIGHEST))
+    yield case("C' above the highest inside the upward pass", above_the_highest())
 
     # numbers and sums at one whole and one part above
     yield case("h is one whole, Kd at its end",
@@ -542,7 +547,7 @@ def extreme_rivers() -> Iterator[Case]:
     yield case("k is one whole: the channel is emptied at once",
                one_reach(2, 10, 0, U, D=0, LAMBDA=HIGHEST_RATE, start=HIGHEST))
     yield case("l is one whole: the channel takes CL at once",
-               one_reach(2, 10, 0, U, A=1, D=0, qin=100_000, CL=HIGHEST, start=5))
+               one_reach(2, 10, 0, U, A=1, D=0, qin=100_000, qout=100_000, CL=HIGHEST, start=5))
     sorbing = dict(D=0, RHO=1_000_000, Kd=HIGHEST_KD, start=5)
     yield case("s is one whole", one_reach(1, 10, 0, U, LAMHAT=2_000_000, **sorbing))
     yield case("s is above one whole", one_reach(1, 10, 0, U, LAMHAT=2_000_001, **sorbing), 12)
@@ -557,7 +562,7 @@ def extreme_rivers() -> Iterator[Case]:
     # four wholes, which 32 bits hold as 0
     yield case("a and b are four wholes", one_reach(8, 10, 0, U, D=0, ALPHA=HIGHEST_RATE), 12)
     yield case("b is four wholes", one_reach(1, 10, 0, U, D=0, A=1_000_000, AS=1, ALPHA=8_000), 12)
-    yield case("l is four wholes", one_reach(8, 10, 0, U, D=0, A=1, qin=100_000), 12)
+    yield case("l is four wholes", one_reach(8, 10, 0, U, D=0, A=1, qin=100_000, qout=100_000), 12)
     yield case("s is four wholes", one_reach(1, 10, 0, U, LAMHAT=8_000_000, **sorbing), 12)
     yield case("e is four wholes", one_reach(8, 10, 0, U, D=100), 12)
     yield case("e and g are four wholes", one_reach(8, 10, 0, U, segments=2, D=100), 12)
@@ -575,13 +580,12 @@ def extreme_rivers() -> Iterator[Case]:
     yield case("the highest flow, T one whole",
                one_reach(100, 10_000, HIGHEST_FLOW, U, D=1_000_000, start=HIGHEST, **wide))
     yield case("a flow that rises to 100,000,000",
-               one_reach(1, 10_000, 99_999_700, U, D=1_000_000, qin=1_000, **wide))
+               one_reach(1, 10_000, 99_999_650, U, D=1_000_000, qin=1_000, **wide))
     yield case("a flow that rises to 100,000,001",
-               one_reach(1, 10_000, 99_999_701, U, D=1_000_000, qin=1_000, **wide), 10)
-    yield case("a flow that falls to 0", one_reach(1, 10_000, 300, U, D=1_000, qout=1_000, **wide))
-    yield case("a flow that falls to -1", one_reach(1, 10_000, 299, U, D=1_000, qout=1_000, **wide), 10)
-    yield case("a little less than nothing is rounded down to -1",
-               one_reach(1, 10, 0, U, segments=2, qin=5, qout=6), 10)
+               one_reach(1, 10_000, 99_999_651, U, D=1_000_000, qin=1_000, **wide), 10)
+    yield case("a flow that falls to 0", one_reach(1, 10_000, 350, U, D=1_000, qout=1_000, **wide))
+    yield case("a flow that falls to -1", one_reach(1, 10_000, 349, U, D=1_000, qout=1_000, **wide), 10)
+    yield case("a little less than nothing is rounded down to -1", one_reach(1, 10, 0, U, qin=5, qout=6), 10)
     yield case("a little more than nothing is rounded down to 0",
                one_reach(1, 10, 0, U, segments=2, D=0, qin=6, qout=5, CL=999))
     yield case("no dispersion and no flow",
@@ -618,6 +622,39 @@ def extreme_rivers() -> Iterator[Case]:
     yield case("interval above M", base.with_header(interval=7), 5)
     yield case("gauges in every segment", replace(base, gauges=list(range(1, 10))))
     yield case("a gauge past the last segment", replace(base, gauges=[1, 10]), 9)
+
+
+def middle_gains(draft: Draft) -> list[Fraction]:
+    """The gain of all segments before each one plus half its own, in mL/s, not rounded."""
+    own = [Fraction((reach.qin - reach.qout) * draft.header.dx, LATERAL)
+           for reach in draft.reaches for _ in range(reach.segments)]
+    return [before + each / 2 for before, each in zip(accumulate(own, initial=Fraction(0)), own)]
+
+
+def lateral_reach(rng: random.Random, D: int) -> Reach:
+    """One that gains or loses, a little or much."""
+    qin, qout = (rng.choice((0, 0, rng.randint(1, 30), log_uniform(rng, 1, HIGHEST_FLOW // 20))) for _ in range(2))
+    return BROOK_REACH._replace(segments=rng.randint(1, 4), D=D, A=1_000_000, qin=qin, qout=qout,
+                                CL=concentration(rng), start=concentration(rng))
+
+
+def lateral_rivers(rng: random.Random, count: int) -> Iterator[Case]:
+    """The lowest and the highest flow at the top that pass 10, and one less and one more; also as a flow row's.
+
+    11 and 12 pass whatever the flow is.
+    """
+    for _ in range(count):
+        dx = log_uniform(rng, 100, 10_000)
+        reaches = [lateral_reach(rng, min(1_000_000, dx * dx // 2)) for _ in range(rng.randint(1, 4))]
+        draft = Draft(Header(dt=1, dx=dx, M=2, interval=1, top_flow=0), reaches, [Row(0, concentration(rng))])
+        draft = replace(draft, gauges=list(range(1, draft.segments + 1)))
+        gains = [math.floor(gain) for gain in middle_gains(draft)]
+        low, high = max(0, -min(gains)), min(HIGHEST_FLOW, HIGHEST_FLOW - max(gains))
+        for top in filter(FLOW.holds, (low - 1, low, high, high + 1)):
+            number = ACCEPTED if low <= top <= high else 10
+            for name, flowing in (("at the top", draft.with_header(top_flow=top)),
+                                  ("of a row", draft.with_header(top_flow=low).with_flows((1, top)))):
+                yield Case(f"{describe(flowing)}: {top} mL/s {name}", write(flowing), number, "brackets")
 
 
 def fullest(rng: random.Random) -> Draft:
@@ -879,7 +916,7 @@ def disordered_flows(draft: Draft) -> Iterator[Case]:
 
 
 def falling(top_flow: int, *flows: int) -> Draft:
-    """Test 10 wants 0, 46 and 91 at the top for its three segments, 11 allows 2,000; a flow row at each step."""
+    """Test 10 wants 23, 69 and 114 at the top for its three segments, 11 allows 2,023; a flow row at each step."""
     return slope(top_flow, 3).with_header(M=max(2, len(flows))).with_flows(*enumerate(flows, 1))
 
 
@@ -919,24 +956,24 @@ def flow_faults() -> Iterator[FlowFault]:
     """Tests 10 to 12 at fault with the top flow, with a row's, and with several: the first flow at fault decides."""
     most = MOST_FLOW_ROWS
     for number, river, good, bad, segment in (
-            (10, falling, 91, 90, 3), (10, falling, 91, 45, 2), (11, narrowing, 200, 201, 4),
-            (11, narrowing, 200, 401, 3), (12, filling, 333, 334, 1), (12, halving, 100, 99, 1),
-            (12, halving, 100, 102, 3)):
+            (10, falling, 114, 113, 3), (10, falling, 114, 68, 2), (10, falling, 114, 22, 1),
+            (11, narrowing, 200, 201, 4), (11, narrowing, 200, 401, 3), (12, filling, 333, 334, 1),
+            (12, halving, 100, 99, 1), (12, halving, 100, 102, 3)):
         yield FlowFault(f"{number}: the top flow, {bad}", river(bad, good), number, segment)
         for rows, at in ((1, 1), (2, 2), (5, 2), (most, 1), (most, 2), (most, most)):
             flows = [bad if row == at else good for row in range(1, rows + 1)]
             yield FlowFault(f"{number}: row {at} of {rows}, {bad}", river(good, *flows), number, segment)
     for number, river, good, first, later, segment in (
-            (10, falling, 91, 90, 45, 3), (11, narrowing, 200, 201, 901, 4), (11, narrowing, 200, 401, 701, 3),
+            (10, falling, 114, 113, 22, 3), (11, narrowing, 200, 201, 901, 4), (11, narrowing, 200, 401, 701, 3),
             (12, halving, 100, 102, 99, 3)):
         yield FlowFault(f"{number}: the top flow, then a row's", river(first, later), number, segment)
         yield FlowFault(f"{number}: row 1, then row 2", river(good, first, later), number, segment)
         yield FlowFault(f"{number}: row 63, then row 64", river(good, *[good] * (most - 2), first, later), number,
                         segment)
     for name, draft, number, segment in (
-            ("10 of row 2, 11 of the top flow", falling(2_001, 91, 90), 10, 3),
-            ("10 of row 64, 11 of row 1", falling(91, 2_001, *[91] * (most - 2), 90), 10, 3),
-            ("11 of row 2, 10 of none", falling(91, 91, 2_001), 11, 1),
+            ("10 of row 2, 11 of the top flow", falling(2_024, 114, 113), 10, 3),
+            ("10 of row 64, 11 of row 1", falling(114, 2_024, *[114] * (most - 2), 113), 10, 3),
+            ("11 of row 2, 10 of none", falling(114, 114, 2_024), 11, 1),
             ("11 of row 1, 12 of the top flow", filling(334, 1_001), 11, 1),
             ("11 of row 64, 12 of row 1", filling(0, 334, *[0] * (most - 2), 1_001), 11, 1),
             ("12 of row 2, 11 of none", filling(0, 1_000 // 3, 1_000), 12, 1)):
@@ -970,7 +1007,7 @@ def flow_rivers() -> Iterator[Case]:
     yield case("a row at the last step, which is the first", brook(2, 0, 3_001).with_flows((1, 1_000)), "fractions")
     yield case("a row at every step", base.with_flows(*((start, 15_000 * start) for start in range(1, 7))))
     yield case("a row behind the last line shown", base.with_header(interval=4).with_flows((5, 90_000)))
-    for river, flows in ((falling, (91, 2_000)), (narrowing, (200, 0)), (filling, (333, 0)), (halving, (100, 0))):
+    for river, flows in ((falling, (114, 2_023)), (narrowing, (200, 0)), (filling, (333, 0)), (halving, (100, 0))):
         most = [flows[row % 2] for row in range(1, MOST_FLOW_ROWS + 1)]
         yield case(f"64 rows, {river.__name__}", river(flows[0], *most))
     U = [Row(0, 1), Row(1, 2), Row(2, 5), Row(3, HIGHEST), Row(4, HIGHEST - 1), Row(6, 8)]
@@ -980,11 +1017,8 @@ def flow_rivers() -> Iterator[Case]:
     wide = one_reach(100, 10_000, 0, U, segments=4, A=1_000_000, D=1_000_000, start=HIGHEST)
     yield case("from no flow to the highest and back", wide.with_flows((2, HIGHEST_FLOW), (4, 0), (5, HIGHEST_FLOW)))
     rising = one_reach(1, 10_000, 0, U, segments=4, A=1_000_000, D=1_000_000, qin=1_000)
-    yield case("a row's flow that rises to 100,000,000", rising.with_flows((1, 99_999_700)))
-    yield case("the highest figures", one_reach(
-        675, 358, 64_007, [Row(0, HIGHEST), Row(14, HIGHEST)], segments=10, D=160, A=143_216, AS=164, ALPHA=3_217,
-        qin=882_067, LAMHAT=1_407_407, RHO=102_925, Kd=1, CL=HIGHEST, CB=HIGHEST, start=HIGHEST
-        ).with_flows((1, 0), (2, 64_000), (5, 30_000), (9, 1)))
+    yield case("a row's flow that rises to 100,000,000", rising.with_flows((1, 99_999_650)))
+    yield case("the highest figures", above_the_highest().with_flows((1, 0), (2, 64_000), (5, 30_000), (9, 1)))
     day = [(start, 20_000 + 1_000 * min(start, 60 - start)) for start in range(1, 60, 3)]
     yield case("a day with snowmelt", base.with_header(M=60, interval=5).with_flows(*day))
 

@@ -214,6 +214,7 @@ def cases(rng: random.Random) -> Iterator[sheets.Case]:
     """Sheets of every kind, for single loadings."""
     yield from sheets.bench_cases()
     yield from sheets.extreme_rivers()
+    yield from sheets.lateral_rivers(rng, 12)
     yield from rng.sample(list(sheets.cut_sheets(sheets.plain())), 60)
     yield from islice(sheets.lengthened_sheets(rng, sheets.plain()), 20)
     yield from islice(sheets.marked_sheets(rng, sheets.plain()), 40)

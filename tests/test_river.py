@@ -109,6 +109,7 @@ DRAW_FLOWS = sheets.draw_flow_river
 GROUPS = (
     Group("the document's bench", lambda rng: sheets.bench_cases(), 14, GOOD | {6, 7, 10, 11, 12}, exact=True),
     Group("extreme rivers", lambda rng: sheets.extreme_rivers(), 50, GOOD | {5, 8, 9, 10, 11, 12}, exact=True),
+    Group("lateral flow at its limits", lambda rng: sheets.lateral_rivers(rng, 40), 200, GOOD | {10}, True, True),
     Group("sheets cut short", lambda rng: sheets.cut_sheets(PLAIN), 250, {1, 2}),
     Group("sheets with bytes added", lambda rng: sheets.lengthened_sheets(rng, PLAIN), 70, {1, 4}),
     Group("the longest sheets", lambda rng: sheets.longest_sheets(rng), 24, GOOD | {2, 4}),
@@ -270,7 +271,8 @@ def run_checks(total: Tally) -> None:
 
 def run_vectors(path: str, total: Tally) -> None:
     """The fixed vectors beside this file."""
-    found = [vector for folder in (VECTORS, VECTORS / "request-01") for vector in check_vectors.vectors(folder)]
+    folders = (VECTORS, *sorted(VECTORS.glob("request-*")))
+    found = [vector for folder in folders for vector in check_vectors.vectors(folder)]
     faults = list(check_vectors.differences(path, found))
     for fault in faults[:MOST_SHOWN]:
         say(f"  {fault}")

@@ -372,7 +372,7 @@ def told_of_sheets() -> Iterator[tuple[bytes, str, tuple[str, ...]]]:
            ("not after row 1, at step 0", "the concentration of boundary row 2 is 1,000,000,001 ng/L"))
     yield (write(replace(base, gauges=[4, 10])), "refused 9, gauge 2",
            ("gauge 2 stands in segment 10", "segments 1 to 9"))
-    yield (write(sheets.slope(45, 2)), "refused 10, segment 2",
+    yield (write(sheets.slope(68, 2)), "refused 10, segment 2",
            ("the flow is -1 mL/s", "raise the flow at the top by 1 mL/s"))
     yield (write(brook(dt=2, Q=1_001)), "refused 11, segment 1",
            ("1,001 × 10 = 10,010 cm4/s", "5,000 + 5,000 = 10,000 cm4/s", "D of at least 51 cm2/s in reach 1"))
@@ -402,10 +402,10 @@ def told_of_flows() -> Iterator[tuple[bytes, str, tuple[str, ...]]]:
     yield (write(base.with_flows((1, 5), (1, 10 ** 8 + 1))), "refused 16, flow row 2",
            ("flow row 2 starts at step 1, which is not after flow row 1, at step 1",
             "the top flow of flow row 2 is 100,000,001 mL/s", "0 to 100,000,000 mL/s"))
-    yield (write(sheets.falling(91, 91, 90)), "refused 10, segment 3",
+    yield (write(sheets.falling(114, 114, 113)), "refused 10, segment 3",
            ("with flow row 2, from step 2 (0.00555556 h) on, in segment 3 (reach 1) the flow is -1 mL/s",
             "or raise the top flow of flow row 2 by 1 mL/s"))
-    yield (write(sheets.falling(90, 91, 90)), "refused 10, segment 3",
+    yield (write(sheets.falling(113, 114, 113)), "refused 10, segment 3",
            ("  in segment 3 (reach 1) the flow is -1 mL/s", "or raise the flow at the top by 1 mL/s"))
     yield (write(sheets.narrowing(200, 200, 401)), "refused 11, segment 3",
            ("with flow row 2, from step 2 (0.000555556 h) on, in segment 3 (reach 3) Q × dx, 401 × 10 = 4,010 cm4/s,",
@@ -416,8 +416,8 @@ def told_of_flows() -> Iterator[tuple[bytes, str, tuple[str, ...]]]:
     yield (sheet, "accepted", (
         "3 flow rows, 3 boundary rows; gauges in segment 1 (10 m)", "of AD own + AD below (segment 9, flow row 3)",
         "  flow         from step          at the top    along the river (10)    Q × dx (11)          T (12)\n",
-        "  top flow     0 (0 h)            20,000 mL/s   20,000 to 20,160 mL/s   0.2016 (segment 9)   0.08",
-        "  flow row 3   6 (0.0166667 h)    60,000 mL/s   60,000 to 60,160 mL/s   0.6016 (segment 9)   0.08"))
+        "  top flow     0 (0 h)            20,000 mL/s   20,010 to 20,170 mL/s   0.2017 (segment 9)   0.08",
+        "  flow row 3   6 (0.0166667 h)    60,000 mL/s   60,010 to 60,170 mL/s   0.6017 (segment 9)   0.08"))
 
 
 LONGEST_DX = "the longest dx for which the whole river passes 11, all else unchanged: "
@@ -435,8 +435,8 @@ def told_of_longest() -> Iterator[tuple[str, Draft, list[str]]]:
     yield ("refused 11", brook(dt=1, Q=100).with_header(dx=101),
            [f"{LONGEST_DX}100 cm (1 m)", f"{LONGEST_DT}203 s", f"{WITH_THAT_DX}200 s"])
     yield "refused 11", brook(dt=1, Q=1_001), [f"{LONGEST_DX}none from 10 to 10,000 cm", f"{LONGEST_DT}1 s"]
-    yield ("refused 10", sheets.slope(45, 2), [f"{LONGEST_DX}990 cm (9.9 m)",
-           f"{LONGEST_DT}not to be told while dx or a flow is out of range", f"{WITH_THAT_DX}980 s"])
+    yield ("refused 10", sheets.slope(68, 2), [f"{LONGEST_DX}997 cm (9.97 m)",
+           f"{LONGEST_DT}not to be told while dx or a flow is out of range", f"{WITH_THAT_DX}994 s"])
     yield "refused 12", brook(dt=1, Q=0, LAMBDA=10 ** 9, ALPHA=10 ** 9, LAMHAT=10 ** 9), [
         f"{LONGEST_DX}10,000 cm (100 m)", f"{LONGEST_DT}none from 1 to 3,600 s"]
     yield "accepted", brook(dt=2, Q=0, D=0), [f"{LONGEST_DX}10,000 cm (100 m)", f"{LONGEST_DT}3,600 s"]
@@ -453,22 +453,23 @@ def told_of_longest() -> Iterator[tuple[str, Draft, list[str]]]:
     yield ("refused 12", brook(dt=4, Q=0, M=2).with_flows(*flows), [f"{LONGEST_DX}100 cm (1 m)", f"{LONGEST_DT}3 s"])
     yield ("refused 11", brook(dt=1, Q=0, M=2).with_flows(*flows).with_header(dx=101),
            [f"{LONGEST_DX}100 cm (1 m)", f"{LONGEST_DT}203 s", f"{WITH_THAT_DX}200 s"])
-    yield ("refused 10", sheets.falling(2_000, 90), [f"{LONGEST_DX}990 cm (9.9 m)",
-           f"{LONGEST_DT}not to be told while dx or a flow is out of range", f"{WITH_THAT_DX}980 s"])
+    yield ("refused 10", sheets.falling(2_000, 113), [f"{LONGEST_DX}994 cm (9.94 m)",
+           f"{LONGEST_DT}not to be told while dx or a flow is out of range", f"{WITH_THAT_DX}988 s"])
     yield "refused 16", brook(dt=2, Q=0).with_flows((1, 10 ** 8 + 1)), [NO_FLOWS]
 
 
 def passes_11(draft: Draft, dx: int) -> bool:
-    """Document 01's tests 10 and 11 once more, from its words, for the top flow and every row's."""
+    """Tests 10 and 11 once more, from the documents' words, for the top flow and every row's."""
     own = [reach for reach in draft.reaches for _ in range(reach.segments)]
     for top in (draft.header.top_flow, *(row.top_flow for row in draft.flow_rows or ())):
         gain = 0
         for at, reach in enumerate(own):
-            Q = top + gain * dx // 100_000
+            net = reach.qin - reach.qout
+            Q = top + (2 * gain + net) * dx // 200_000
             below = own[min(at + 1, len(own) - 1)]
             if not 0 <= Q <= 100_000_000 or Q * dx > reach.A * reach.D + below.A * below.D:
                 return False
-            gain += reach.qin - reach.qout
+            gain += net
     return True
 
 
@@ -542,7 +543,7 @@ def remedy_checks() -> Iterator[Check]:
         refusal = model.answer(write(draft))
         return refusal.number if refusal else 0
 
-    yield Check("10: the flow advised", number(sheets.slope(46, 2)), 0)
+    yield Check("10: the flow advised", number(sheets.slope(69, 2)), 0)
     yield Check("11: the dispersion advised", [number(brook(dt=1, Q=1_001, D=D)) for D in (50, 51)], [11, 0])
     two = Draft(Header(1, 100, 1, 1, 100), [BROOK_REACH._replace(D=60), BROOK_REACH._replace(D=39)])
     yield Check("11: between reaches", [fault.remedy for fault in explain.faults(write(two))],
@@ -550,7 +551,7 @@ def remedy_checks() -> Iterator[Check]:
                  "or a dispersion D of at least 61 cm2/s in reach 1 would do here"])
     yield Check("11: that dispersion moves it on", model.answer(write(two.with_reach(0, D=61))).place,
                 ("segment", 2))
-    yield Check("10: the flow row advised", [number(sheets.falling(91, 91, flow)) for flow in (90, 91)], [10, 0])
+    yield Check("10: the flow row advised", [number(sheets.falling(114, 114, flow)) for flow in (113, 114)], [10, 0])
     rng = random.Random("remedies")
     tried = 0
     while tried < 25:
@@ -827,9 +828,11 @@ def example_checks() -> Iterator[Check]:
     chloride = model.read_sheet(write(uvas.chloride()))
     found = float_river.figure_13(chloride, float_river.REPORT)
     yield Check("the report's figure 13", float_river.agreeing(found), 24)
-    for choice, same in zip(float_river.CHOICES, (8, 8, 14, 21)):
-        found = float_river.figure_13(chloride, float_river.other_choice(choice))
-        yield Check(f"figure 13 without {choice}", float_river.agreeing(found), same)
+    others = {**{f"another {choice}": float_river.other_choice(choice) for choice in float_river.SEARCHED},
+              **{f"flow at the {place}": scheme for place, scheme in float_river.FLOWS.items()}}
+    for (choice, scheme), same in zip(others.items(), (8, 8, 14, 21, 21, 22), strict=True):
+        found = float_river.figure_13(chloride, scheme)
+        yield Check(f"figure 13 with {choice}", float_river.agreeing(found), same)
 
 
 def listing_check(name: str, found: bytes, wanted: bytes) -> Check:

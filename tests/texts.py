@@ -191,12 +191,14 @@ MISTAKES = (
              (22, "1 1"), (23, "2 7")),
     mistaken(23, 9, "gauge 2 stands in segment 1 (10 m), which is not below gauge 1, in segment 1 (10 m)",
              (23, "2 10")),
-    mistaken(8, 10, "in segment 2 (reach 1) the flow is -10,000 mL/s (-10 L/s)", (12, "all 0 3e6 0.5 1")),
-    mistaken(8, 10, "or raise the flow at the top by 130,000 mL/s (130 L/s)", (12, "all 0 3e6 0.5 1")),
-    mistaken(8, 10, "a flow is at most 100,000,000 mL/s (100000 L/s): lower qin above it, or the flow at the top "
-             "by 50,000 mL/s (50 L/s)", (5, "flow at top 1e5 L/s"), (12, "all 1e6 0 0.5 1")),
-    mistaken(9, 11, "in segment 4 (reach 2) Q × dx, 20,060 × 1,000 = 20,060,000 cm4/s", (9, "2 3 0 1 0.2 1e-3")),
-    mistaken(9, 11, "a dispersion D of at least 1,003 cm2/s (0.1003 m2/s) in reach 2", (9, "2 3 0 1 0.2 1e-3")),
+    mistaken(8, 10, "in segment 2 (reach 1) the flow is -25,000 mL/s (-25 L/s)", (12, "all 0 3e6 0.5 1")),
+    mistaken(8, 10, "or raise the flow at the top by 145,000 mL/s (145 L/s)", (12, "all 0 3e6 0.5 1")),
+    mistaken(8, 10, "in segment 1 (reach 1) the flow is -5 mL/s (-0.005 L/s); the outflow qout down to there takes more",
+             (5, "flow at top 0 L/s"), (12, "all 0 1000 0.5 1")),
+    mistaken(8, 10, "a flow is at most 100,000,000 mL/s (100000 L/s): lower qin down to there, or the flow at the top "
+             "by 55,000 mL/s (55 L/s)", (5, "flow at top 1e5 L/s"), (12, "all 1e6 0 0.5 1")),
+    mistaken(9, 11, "in segment 4 (reach 2) Q × dx, 20,070 × 1,000 = 20,070,000 cm4/s", (9, "2 3 0 1 0.2 1e-3")),
+    mistaken(9, 11, "a dispersion D of at least 1,004 cm2/s (0.1004 m2/s) in reach 2", (9, "2 3 0 1 0.2 1e-3")),
     mistaken(9, 11, "segments of at most 498 cm (4.98 m) or a dispersion", (9, "2 3 0.05 1 0.2 1e-3")),
     mistaken(9, 12, "in segment 4 (reach 2) T is 1.", (9, "2 3 0.5 1 0.2 0.3")),
     mistaken(9, 12, "with a step of at most 1 s (about 0.0166666666 min) the whole river passes",
@@ -224,14 +226,14 @@ MISTAKES = (
     with_flows(26, 16, "the top flow of flow row 1 is 101,000,000 mL/s (101 m3/s); "
                "document 01 allows 0 to 100,000,000 mL/s (0 to 100 m3/s)", (25, "unit s m3/s"), (26, "1 10 101"),
                (27, "2 40 0.008")),
-    with_flows(27, 10, "with flow row 2, from step 4 (0.0111111 h) on, in segment 4 (reach 2) the flow is -10 mL/s "
-               "(-0.01 L/s)", (12, "all 0 1000 0.5 1"), (27, "2 40 0.02")),
-    with_flows(27, 10, "or raise the top flow of flow row 2 by 30 mL/s (0.03 L/s)", (12, "all 0 1000 0.5 1"),
+    with_flows(27, 10, "with flow row 2, from step 4 (0.0111111 h) on, in segment 3 (reach 1) the flow is -5 mL/s "
+               "(-0.005 L/s)", (12, "all 0 1000 0.5 1"), (27, "2 40 0.02")),
+    with_flows(27, 10, "or raise the top flow of flow row 2 by 35 mL/s (0.035 L/s)", (12, "all 0 1000 0.5 1"),
                (27, "2 40 0.02")),
-    with_flows(26, 10, "or the top flow of flow row 1 by 100 mL/s (0.1 L/s)", (26, "1 10 1e5")),
+    with_flows(26, 10, "or the top flow of flow row 1 by 110 mL/s (0.11 L/s)", (26, "1 10 1e5")),
     with_flows(26, 11, "with flow row 1, from step 1 (0.00277778 h) on, in segment 1 (reach 1) Q × dx, "
-               "101,000 × 1,000", (26, "1 10 101")),
-    with_flows(9, 11, "in segment 4 (reach 2) Q × dx, 20,060 × 1,000", (9, "2 3 0 1 0.2 1e-3")),
+               "101,010 × 1,000", (26, "1 10 101")),
+    with_flows(9, 11, "in segment 4 (reach 2) Q × dx, 20,070 × 1,000", (9, "2 3 0 1 0.2 1e-3")),
 )
 
 

@@ -1,4 +1,4 @@
-"""Says in words why document 01 (or 02, request 1) refuses a sheet, or what an accepted sheet holds.
+"""Says in words why document 01 (or 02, requests 1 and 2) refuses a sheet, or what an accepted sheet holds.
 
 The verdict is always the model's; what is added here are the figures behind it,
 the limit that they break, and what to change.
@@ -309,11 +309,11 @@ def flow_faults(found: Sheet, row: int, segment: int, written: Written) -> Itera
     flow, unit = flows[segment - 1], top_unit(row, written)
     top = f"the top flow of flow row {row}" if row else "the flow at the top"
     if flow < 0:
-        remedy = (f"the outflow qout above it takes more than the river has: lower it, "
+        remedy = (f"the outflow qout down to there takes more than the river has: lower it, "
                   f"or raise {top} by {figure(-min(flows), units.FLOW, unit, ROUND_CEILING)}")
     else:
         excess = figure(max(flows) - model.HIGHEST_FLOW, units.FLOW, unit, ROUND_CEILING)
-        remedy = (f"a flow is {at_most(model.HIGHEST_FLOW, units.FLOW, unit)}: lower qin above it, "
+        remedy = (f"a flow is {at_most(model.HIGHEST_FLOW, units.FLOW, unit)}: lower qin down to there, "
                   f"or {top} by {excess}")
     yield Fault(10, ("segment", segment), "",
                 f"{at_segment(found, row, segment)} the flow is {figure(flow, units.FLOW, unit)}", remedy, row)
@@ -365,7 +365,7 @@ def longest_step(found: Sheet) -> int:
 
 
 def refused_at(headers: list[Header], gains: list[int], AD: list[tuple[int, int, int]]) -> Optional[int]:
-    """Where tests 10 and 11 refuse segments with these net gains and AD, from 0 on; nothing where they pass."""
+    """Where tests 10 and 11 refuse segments with these gains, given twice, and AD, from 0 on; nothing where they pass."""
     try:
         model.test_flows(headers[0].dx, [[model.flow(header, gain) for gain in gains] for header in headers], AD)
     except Refusal as refusal:
@@ -508,10 +508,10 @@ def flow_table(found: Sheet, made: list[Course]) -> list[str]:
     """A line for each flow: from when on it holds, and how near it comes to what tests 10 to 12 allow."""
     rows = [["flow", "from step", "at the top", "along the river (10)", "Q × dx (11)", "T (12)"]]
     starts = [0, *(row.start for row in found.flow_rows)]
-    for row, (start, course) in enumerate(zip(starts, made)):
+    for row, (start, header, course) in enumerate(zip(starts, model.headers(found), made)):
         low, high = min(course.Q), max(course.Q)
         rows.append([f"flow row {row}" if row else "top flow", start_words(found, start),
-                     figure(course.Q[0], units.FLOW), f"{low:,} to {figure(high, units.FLOW)}",
+                     figure(header.top_flow, units.FLOW), f"{low:,} to {figure(high, units.FLOW)}",
                      course.face.words(), course.sums["T"].words()])
     widths = [max(len(row[at]) for row in rows) for at in range(len(rows[0]))]
     return ["   ".join(cell.ljust(width) for cell, width in zip(row, widths)).rstrip() for row in rows]

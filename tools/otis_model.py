@@ -1,4 +1,4 @@
-"""The river of document 01, with request 1 of document 02, in plain whole numbers: its one implementation in Python.
+"""The river of document 01, with requests 1 and 2 of document 02, in plain whole numbers: the one in Python.
 
 The parts stand in document 01's order: the sheet and its tests, flow and
 half-step numbers, the sweep, the calls, the listing.  Every division is exact
@@ -311,13 +311,14 @@ def headers(found: Sheet) -> list[Header]:
 
 
 def gains(own: list[Reach]) -> list[int]:
-    """The sum of qin - qout over the segments before each one."""
-    return list(accumulate((reach.qin - reach.qout for reach in own[:-1]), initial=0))
+    """Twice the sum of qin - qout at each segment's middle: of all segments before it, and half its own."""
+    net = [reach.qin - reach.qout for reach in own]
+    return [2 * before + here for before, here in zip(accumulate(net, initial=0), net)]
 
 
-def flow(header: Header, gain: int) -> int:
-    """A segment's flow: top flow plus the net gain of the segments before it, rounded down once."""
-    return header.top_flow + gain * header.dx // LATERAL
+def flow(header: Header, twice: int) -> int:
+    """The flow at a segment's middle: top flow plus the gain down to there, given twice, rounded down once."""
+    return header.top_flow + twice * header.dx // (2 * LATERAL)
 
 
 def flows(header: Header, own: list[Reach]) -> list[int]:

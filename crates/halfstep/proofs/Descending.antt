@@ -10,7 +10,7 @@ use lib.Dec.{ltb}
 use lib.IntN.{natAbs}
 use lib.ListN.{length}
 use Rattle.model.specs.Sheet.{Reach, totalSegments, alongRiver}
-use Rattle.model.specs.Flow.{Course, reachAt, gain}
+use Rattle.model.specs.Flow.{Course, reachAt, ownGain, gain}
 use Rattle.model.specs.HalfStep.{ad, adAbove}
 use Rattle.halfstep.specs.Ranges.{InRange, Steps}
 use Rattle.halfstep.specs.Descent.{shareOf, reachNo, atTop, reachBelow, further, cursorAt}
@@ -69,7 +69,7 @@ module _ {n : ℕ} {rs : List Reach} {course : Course} (river : Along n rs cours
 
   -- at every segment
   pub known : (i : ℕ) → i < n → Known rs course i (cursorAt rs (course .dx) i)
-  unfolding cursorAt atTop further reachBelow adAbove ad gain
+  unfolding cursorAt atTop further reachBelow adAbove ad gain ownGain
   known zero h =
       let top = stands-top {rs = rs} (river .ranges) (omega (arith, river .count)) in
       let own = own-at top in

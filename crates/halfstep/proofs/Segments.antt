@@ -10,7 +10,7 @@ use borrow.Author.Tests.{eqb-false}
 use lib.Dec.{eqb}
 use lib.ListN.{length}
 use Rattle.model.specs.Sheet as Sheet
-use Rattle.model.specs.Flow.{Course, flow}
+use Rattle.model.specs.Flow.{Course, ownGain, flow}
 use Rattle.model.specs.HalfStep.{ad, isLast, adBelow}
 use Rattle.terms.specs.Says.{reachSays}
 use Rattle.terms.specs.declared.Reach.{Reach}
@@ -89,16 +89,17 @@ module _ {n : ℕ} {rs : List Sheet.Reach} {course : Course} (river : Along n rs
       -- the segment where the descent stands
       pub sited : {next : Reach} → reachSays next ≡ reachNo rs (cond (eqb (i + 1) n) (at .reach) (reachBelow (reachSays own) at))
           → Sited course i (siteOf (course .dt) (course .dx) (course .top) at own next (eqb (i + 1) n))
-      unfolding siteOf flowOf flow
+      unfolding siteOf flowOf flow ownGain
       sited r =
           let k = known-at in
           let b = below-at in
+          let here = k .own ∙ sym is in
           record {
             place = record {
-              own = k .own ∙ sym is;
+              own = here;
               above = sym (k .above);
               below = sym (ap adOf r ∙ b .value);
-              stream = rw (k .sum);
+              stream = rw (k .sum, here);
               end = sym (last-at i);
               time = refl;
               step = refl;

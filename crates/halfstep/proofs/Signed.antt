@@ -69,6 +69,13 @@ abs-product (pos a) (negsuc b) = abs-neg (pos (a * suc b))
 abs-product (negsuc a) (pos b) = abs-neg (pos (suc a * b))
 abs-product (negsuc a) (negsuc b) = refl
 
+-- twice a number, and that with another
+pub abs-twice : (x : ℤ) → natAbs (pos 2 *ℤ x) ≡ 2 * natAbs x
+abs-twice x = abs-product (pos 2) x
+
+pub abs-twice-and : (x y : ℤ) → natAbs (pos 2 *ℤ x +ℤ y) ≤ 2 * natAbs x + natAbs y
+abs-twice-and x y = omega (arith, abs-sum (pos 2 *ℤ x) y, abs-twice x)
+
 -- a quotient rounded down is no larger than its dividend
 pub abs-floor : (x : ℤ) (d : ℕ) → natAbs (floorDiv x d) ≤ natAbs x
 unfolding floorDiv

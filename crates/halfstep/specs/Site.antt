@@ -4,7 +4,7 @@ use mathlib.Core.Bool.{Bool, false, cond, _||_}
 use mathlib.Core.Path.{_≡_}
 use Prim.Native.Nat.{ℕ, _+_, _-_, _*_, _^_, _≤_, min}
 use lib.Dec.{ltb}
-use lib.IntN.{ℤ, pos, _+ℤ_}
+use lib.IntN.{ℤ, pos, _+ℤ_, _*ℤ_}
 use lib.Signed.{ltZ}
 use Rattle.rounding.specs.Floor.{floorDiv}
 use Rattle.rounding.specs.Nearest.{S, parts}
@@ -16,13 +16,13 @@ use Rattle.model.specs.Load.{sumFault}
 use Rattle.terms.specs.Says.{reachSays}
 use Rattle.terms.specs.declared.Reach.{Reach}
 use Rattle.halfstep.specs.Ranges.{InRange, Steps}
-use Rattle.halfstep.specs.Descent.{adOf}
+use Rattle.halfstep.specs.Descent.{adOf, shareOf}
 use Rattle.halfstep.specs.declared.descent.Cursor.{Cursor}
 use Rattle.halfstep.specs.declared.Site.{Site}
 
--- the flow of a segment, from the flow at the top and the sum over the segments before it
-unfoldable pub flowOf : ℕ → ℤ → ℤ
-flowOf top gain = pos top +ℤ floorDiv gain 100000
+-- the flow at a segment's middle, from the flow at the top, the gain of the segments before it and its own
+unfoldable pub flowOf : (top : ℕ) → (gain own : ℤ) → ℤ
+flowOf top gain own = pos top +ℤ floorDiv (pos 2 *ℤ gain +ℤ own) 200000
 
 -- the segment where a descent stands; `below` is the reach of the segment below, of the last segment its own
 unfoldable pub siteOf : (dt dx top : ℕ) → Cursor → (own below : Reach) → Bool → Site
@@ -30,7 +30,7 @@ siteOf dt dx top at own below last = record {
   own = own;
   above = at .above;
   below = adOf (reachSays below);
-  flow = flowOf top (at .gain);
+  flow = flowOf top (at .gain) (shareOf (own .qin) (own .qout) dx);
   last = last;
   dt = dt;
   dx = dx;

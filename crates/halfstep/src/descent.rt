@@ -1,7 +1,8 @@
 // A descent of the river from the top, segment by segment: which reach a segment is in, the AD above it and the net gain so far.
 ghost use mathlib.Core.Bool.{cond};
 ghost use mathlib.Core.Path.{_≡_};
-ghost use Prim.Native.Nat.{_*_, _<_, _≤_};
+ghost use Prim.Native.Nat.{_*_, _^_, _<_, _≤_};
+ghost use lib.IntN.{natAbs};
 ghost use Rattle.terms.specs.Says.{reachSays};
 ghost use Rattle.model.specs.Ranges.{flows};
 ghost use Rattle.halfstep.specs.Descent.{adOf, shareOf, atTop, reachBelow, further, Descends};
@@ -33,10 +34,10 @@ pub fn ad(own: Reach) -> u64
     product(own.area, own.dispersion)
 }
 
-// What a segment adds to the sum of those below it.
-fn share(qin: u32, qout: u32, dx: u32) -> i64
+// A segment's own gain, which it adds to the sum of those below it.
+pub fn share(qin: u32, qout: u32, dx: u32) -> i64
     requires { ⌜ (qin ≤ flows .high) × (qout ≤ flows .high) × (dx ≤ 10000) ⌝ }
-    ensures { λ r. ⌜ r ≡ shareOf qin qout dx ⌝ }
+    ensures { λ r. ⌜ (r ≡ shareOf qin qout dx) × (natAbs r ≤ 10 ^ 12) ⌝ }
 {
     signed::times(
         signed::minus(signed::int(qin), signed::int(qout)),

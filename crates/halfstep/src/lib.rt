@@ -1,4 +1,5 @@
-// The flow of a segment and its half-step numbers: document 01, "Flow and half-step numbers", with tests 10 to 12, on values.
+// The flow of a segment and its half-step numbers: document 01, "Flow and half-step numbers", and document 02, 2, with tests 10 to 12, on
+// values.
 ghost use mathlib.Core.Bool.{false};
 ghost use mathlib.Core.Path.{_≡_};
 ghost use Prim.Native.Nat.{_*_, _^_, _<_, _≤_};
@@ -8,8 +9,8 @@ ghost use Rattle.rounding.specs.Nearest.{S, parts};
 ghost use Rattle.model.specs.Ranges.{flows};
 ghost use Rattle.model.specs.Flow.{natural};
 ghost use Rattle.model.specs.HalfStep.{rateOf};
-ghost use Rattle.terms.specs.Says.{numbersSay};
-ghost use Rattle.halfstep.specs.Descent.{mostGain};
+ghost use Rattle.terms.specs.Says.{reachSays, numbersSay};
+ghost use Rattle.halfstep.specs.Descent.{mostGain, Descends};
 ghost use Rattle.halfstep.specs.Site.{flowOf, siteOf, flowFaultOf, faceFaultOf, numbersOf, cut, Fields, Passes, StandFor};
 use descent::Cursor;
 use rounding::signed;
@@ -33,12 +34,14 @@ pub struct Site {
 // The highest flow, in mL/s.
 const HIGHEST_FLOW: i64 = 100000000;
 
-// The flow at the top and the net gain, which is rounded down once. There are 100,000 cm to the km.
-fn flow(top: u32, gain: i64) -> i64
-    requires { ⌜ natAbs gain ≤ mostGain ⌝ }
-    ensures { λ r. ⌜ r ≡ flowOf top gain ⌝ }
+// The flow at the top, the gain of the segments before and half of the segment's own, rounded down once. There are 100,000 cm to
+// the km, and twice as many for twice the sum.
+fn flow(top: u32, gain: i64, own: i64) -> i64
+    requires { ⌜ (natAbs gain ≤ mostGain) × (natAbs own ≤ 10 ^ 12) ⌝ }
+    ensures { λ r. ⌜ r ≡ flowOf top gain own ⌝ }
 {
-    signed::plus(signed::int(top), signed::floor_div(gain, 100000))
+    let twice = signed::plus(signed::times(2, gain), own);
+    signed::plus(signed::int(top), signed::floor_div(twice, 200000))
 }
 
 // Above the highest flow.
@@ -116,14 +119,14 @@ fn sorption(dt: u32, lamhat: u32, rho: u32, kd: u32, h: u32) -> u32
 impl Site {
     // The segment where a descent stands; `below` is the reach of the segment below, of the last segment its own.
     pub fn new(at: Cursor, own: Reach, below: Reach, last: bool, top: u32, dt: u32, dx: u32) -> Site
-        requires { ⌜ natAbs (at .gain) ≤ mostGain ⌝ }
+        requires { ⌜ Descends dx (reachSays own) at ⌝ }
         ensures { λ r. ⌜ r ≡ siteOf dt dx top at own below last ⌝ }
     {
         Site {
             own: own,
             above: at.above,
             below: descent::ad(below),
-            flow: flow(top, at.gain),
+            flow: flow(top, at.gain, descent::share(own.qin, own.qout, dx)),
             last: last,
             dt: dt,
             dx: dx,

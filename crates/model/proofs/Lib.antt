@@ -4,3 +4,4 @@ pub mod Clamp
 pub mod FlowRows
 pub mod Bench
 pub mod FlowBench
+pub mod LateralBench

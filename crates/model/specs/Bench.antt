@@ -1,5 +1,5 @@
--- Document 01, "Bench figures": T1 to T11 in one table. A line has the figures that the definitions give and those that
--- document 01 prints; proofs/Bench shows of the whole table at once that they are the same.
+-- Document 01, "Bench figures": T1 to T11 in one table, T4 and T5 as document 02, 2 has them. A line has the figures that the definitions
+-- give and those that are printed; proofs/Bench shows of the whole table at once that they are the same.
 use mathlib.Core.Path.{_≡_}
 use mathlib.Core.List.{List, [], _∷_, _++_}
 use Prim.Native.Nat.{ℕ, zero, suc, _+_, _-_, _/_, _%_, _^_}
@@ -73,7 +73,7 @@ brook2 = loadColumns (brook 1 0 2 3000) 0 1 (zeros 2)
 unfoldable pub started2 : State
 started2 = startState 2 brook2 (noState 2) 3000
 
--- a line of a table: its number, what the definitions give and what the figures are to be, here those that document 01 prints
+-- a line of a table: its number, what the definitions give and what the figures are to be, here those that the documents print
 pub record Line : Type 0 where
   pub number : ℕ
   pub given : List ℕ
@@ -86,9 +86,9 @@ bench =
     record { number = 1; given = parts 1 3 ∷ []; printed = 357913941 ∷ [] } ∷
     record { number = 2; given = parts 1 (2 ^ 31) ∷ []; printed = 1 ∷ [] } ∷
     record { number = 3; given = parts 0 1 ∷ []; printed = 0 ∷ [] } ∷
-    -- "segment 2 has the top flow less 46", "segment 3: less 91"
-    record { number = 4; given = (1000 - discharge slope 1) ∷ []; printed = 46 ∷ [] } ∷
-    record { number = 5; given = (1000 - discharge slope 2) ∷ []; printed = 91 ∷ [] } ∷
+    -- document 02, 2: "T4 becomes 69 less and T5 114 less"
+    record { number = 4; given = (1000 - discharge slope 1) ∷ []; printed = 69 ∷ [] } ∷
+    record { number = 5; given = (1000 - discharge slope 2) ∷ []; printed = 114 ∷ [] } ∷
     -- "e is one whole, accepted"; "refused 12"; "refused 11"; "refused 11"
     record { number = 6; given = eOf (courseOf (brook 2 1000 1 0) 0) 0 ∷ brookRefusal 2 1000; printed = S ∷ [] } ∷
     record { number = 7; given = brookRefusal 3 1000; printed = 12 ∷ [] } ∷

@@ -1,4 +1,4 @@
--- Document 01, "Flow and half-step numbers", and document 02, 1: the flows of a sheet, and the flow of each segment.
+-- Document 01, "Flow and half-step numbers", and document 02, 1 and 2: the flows of a sheet, and the flow of each segment.
 use mathlib.Core.Bool.{cond}
 use mathlib.Core.List.{List}
 use Prim.Native.Nat.{ℕ, zero, suc}
@@ -37,15 +37,19 @@ courseOf sheet r = record { dt = dt sheet; dx = dx sheet; top = topOf sheet r; r
 unfoldable pub reachAt : Course → ℕ → Reach
 reachAt course i = getD (course .river) i (reachOf (λ k. 0))
 
--- "the sum, over the segments before it, of (qin − qout) × dx"
+-- "(qin − qout) × dx" of segment i: its own gain, of which 100,000 make a mL/s
+unfoldable pub ownGain : Course → ℕ → ℤ
+ownGain course i = (pos (reachAt course i .qin) -ℤ pos (reachAt course i .qout)) *ℤ pos (course .dx)
+
+-- "the gain of all segments before it"
 unfoldable pub gain : Course → ℕ → ℤ
 gain course zero = pos 0
-gain course (suc i) = gain course i +ℤ (pos (reachAt course i .qin) -ℤ pos (reachAt course i .qout)) *ℤ pos (course .dx)
+gain course (suc i) = gain course i +ℤ ownGain course i
 
--- "Segment i's flow Q is the top flow plus the net gain, which is the sum .. / 100,000; the net gain can be negative and is
--- rounded down once."
+-- "Segment i's flow Q is the top flow plus the net gain", which at the segment's middle is "the gain of all segments before it plus
+-- half its own, rounded down once": twice that sum / 200,000, so that no half is rounded by itself.
 unfoldable pub flow : Course → ℕ → ℤ
-flow course i = pos (course .top) +ℤ floorDiv (gain course i) 100000
+flow course i = pos (course .top) +ℤ floorDiv (pos 2 *ℤ gain course i +ℤ ownGain course i) 200000
 
 -- Q as the formulas read it: a flow below 0 is refused (10) before any of them is used
 abbrev pub natural : ℤ → ℕ

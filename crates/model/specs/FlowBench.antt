@@ -136,11 +136,11 @@ flowBench =
     record { number = 14; given = loadingOf (snow 1 2 0 0 1 (1 ∷ 1 ∷ 100000001 ∷ [])) 0; printed = 16 ∷ 1 ∷ [] } ∷
     record { number = 15; given = loadingOf (snow 1 2 0 0 3 (1 ∷ 0 ∷ 0 ∷ [])) 0; printed = 9 ∷ 1 ∷ [] } ∷
     -- the top flow fails 11 at segment 1 and the row 10 at segment 2: "before the next check"; a row that fails 11, and one that fails 12
-    record { number = 16; given = loadingOf (snow 1 2 1001 4545 1 (1 ∷ 1 ∷ 0 ∷ [])) 0; printed = 10 ∷ 2 ∷ [] } ∷
+    record { number = 16; given = loadingOf (snow 1 2 1002 10000 1 (1 ∷ 1 ∷ 1 ∷ [])) 0; printed = 10 ∷ 2 ∷ [] } ∷
     record { number = 17; given = loadingOf (snow 1 2 0 0 1 (1 ∷ 1 ∷ 1001 ∷ [])) 0; printed = 11 ∷ 1 ∷ [] } ∷
     record { number = 18; given = loadingOf (snow 3 1 0 0 1 (2 ∷ 1 ∷ 0 ∷ 2 ∷ 1000 ∷ [])) 0; printed = 12 ∷ 1 ∷ [] } ∷
     -- the top flow fails 10 at segment 4, the row at segment 2: "the first flow at fault gives the place"
-    record { number = 19; given = loadingOf (snow 1 4 1 4545 1 (1 ∷ 1 ∷ 0 ∷ [])) 0; printed = 10 ∷ 4 ∷ [] } ∷
+    record { number = 19; given = loadingOf (snow 1 4 3 10000 1 (1 ∷ 1 ∷ 1 ∷ [])) 0; printed = 10 ∷ 4 ∷ [] } ∷
     -- a step whose old set is short by an entry, and one whose T passes one whole in segment 2
     record { number = 20; given = steppingFrom (oldSetWith (100000000 ∷ [])); printed = 13 ∷ 0 ∷ [] } ∷
     record { number = 21; given = steppingFrom (oldSetWith (100000000 ∷ 1000000000 ∷ [])); printed = 14 ∷ 2 ∷ [] } ∷

@@ -14,3 +14,4 @@ pub mod Runs
 pub mod Claim
 pub mod Bench
 pub mod FlowBench
+pub mod LateralBench

@@ -371,10 +371,10 @@ pub extern "C" fn yumbaqel_dx(sheet: &[u8]) -> u32
     sheet::fields::dx(sheet)
 }
 
-// The version of this interface, 2.0.0: the first number times 10,000, the second times 100 and the third.
+// The version of this interface, 2.1.0: the first number times 10,000, the second times 100 and the third.
 #[no_mangle]
 pub extern "C" fn yumbaqel_version() -> u32
-    ensures { λ r. ⌜ r ≡ 20000 ⌝ }
+    ensures { λ r. ⌜ r ≡ 20100 ⌝ }
 {
-    20000
+    20100
 }

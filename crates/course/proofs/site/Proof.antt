@@ -15,7 +15,7 @@ below-requires : tie.Need-below-requires
 below-requires c κs = (descends c .passed, descends c .reach)
 
 new-requires : tie.Need-new-requires
-new-requires c κs = descends (c .before .before .before .before .before) .gain
+new-requires c κs = rw (c .dx .ensures) (descends (c .before .before .before .before .before))
 
 returns : tie.Need-returns
 returns c =

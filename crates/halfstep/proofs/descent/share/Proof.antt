@@ -1,4 +1,5 @@
 -- `share` meets its contract: the difference is within 10^8 either way, the product within 10^12 (`abs-share`). Assumes nothing.
+use mathlib.Core.Path.{refl}
 use native.Mathlib.Omega.{arith}
 use borrow.Author.Needs.{needs}
 use Rattle.halfstep.proofs.Signed.{result, fits-abs, abs-diff, abs-share}
@@ -30,7 +31,9 @@ returns c =
     let m = c .before .before .minus in
     let o = c .before .before .before .int2 in
     let i = c .before .before .before .before .int in
+    let args = c .before .before .before .before .before .args in
     rw (result (t .ok) (t .ensures), result (d .ok) (d .ensures), result (m .ok) (m .ensures), result (o .ok) (o .ensures), result (i .ok) (i .ensures))
+    (refl, abs-share (args .qin) (args .qout) (args .dx) (omega arith) (omega arith) (omega arith))
 
 pub share-spec : {M : Type 1} → statement M
 share-spec =

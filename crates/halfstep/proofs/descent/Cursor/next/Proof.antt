@@ -7,7 +7,7 @@ use lib.IntN.{_+ℤ_}
 use mir.Syntax.{w64}
 use mir.Val.{toZ, ofZ}
 use Rattle.halfstep.specs.Descent.{reachBelow, further, shareOf}
-use Rattle.halfstep.proofs.Signed.{back-abs, result, fits-abs, abs-sum, abs-share}
+use Rattle.halfstep.proofs.Signed.{back, back-abs, result, fits-abs, abs-sum}
 use Rattle.halfstep.proofs.descent.Cursor.next.Statement.{statement}
 use Rattle.halfstep.proofs.descent.Cursor.next.Tie as tie
 
@@ -16,10 +16,8 @@ plus-requires c κs =
     let start = c .before .before .before in
     let s = c .before .share in
     let gain = start .args .self .gain in
-    let own = start .args .own in
-    let dx = start .args .dx in
-    rw (result (s .ok) (s .ensures), back-abs gain (omega (arith, start .pre)))
-    (fits-abs _ (omega (arith, start .pre, abs-sum gain (shareOf (own .qin) (own .qout) dx), abs-share (own .qin) (own .qout) dx (omega arith) (omega arith) (omega arith))))
+    rw (back (s .result) (s .ok), back-abs gain (omega (arith, start .pre)))
+    (fits-abs _ (omega (arith, start .pre, abs-sum gain (s .result), s .ensures .1)))
 
 -- the sum, read back
 gained : (c : tie.After-plus) → let args = c .before .before .before .before .args in toZ w64 (ofZ w64 (c .plus .result)) ≡ args .self .gain +ℤ shareOf (args .own .qin) (args .own .qout) (args .dx)
@@ -27,7 +25,7 @@ gained c =
     let start = c .before .before .before .before in
     let p = c .plus in
     let s = c .before .before .share in
-    rw (result (p .ok) (p .ensures), result (s .ok) (s .ensures), back-abs (start .args .self .gain) (omega (arith, start .pre)))
+    rw (result (p .ok) (p .ensures), result (s .ok) (s .ensures .0), back-abs (start .args .self .gain) (omega (arith, start .pre)))
 
 returns : tie.Need-returns
 unfolding further reachBelow
