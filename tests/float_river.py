@@ -208,7 +208,6 @@ MG = 1_000_000                      # ng/L in a mg/L
 
 
 FIRST_HOUR = 8.25                   # the report's clock at step 0
-PRINT = 360                         # seconds between lines: PSTEP
 RISE = 5.0                          # mg/L that a front passes on its rise, between 3.7 and the peaks
 
 
@@ -316,7 +315,8 @@ def application_1_lines(chloride: Sheet, listing: str, dt: int) -> Iterator[str]
 
 def flow_lines(chloride: Sheet, dt: int) -> Iterator[str]:
     """How far the report's scheme moves, at each gauge, where its flow alone is taken otherwise."""
-    seconds = range(PRINT, chloride.header.M * chloride.header.dt + 1, PRINT)
+    line = chloride.header.interval * chloride.header.dt
+    seconds = range(line, chloride.header.M * chloride.header.dt + 1, line)
     found = curves(chloride, REPORT, dt, seconds)
     others = [curves(chloride, scheme, dt, seconds) for scheme in FLOWS.values()]
     yield "gauge   " + "   ".join(f"{name:>23}" for name in FLOWS)
