@@ -13,7 +13,11 @@ static uint32_t words[YUMBAQEL_WORDS(YUMBAQEL_MOST_SEGMENTS)], copy_words[YUMBAQ
 static uint32_t set_words[YUMBAQEL_SET_WORDS(YUMBAQEL_MOST_SEGMENTS)];
 static uint64_t wide_words[YUMBAQEL_WIDE_WORDS(YUMBAQEL_MOST_SEGMENTS)], copy_wide_words[YUMBAQEL_WIDE_WORDS(YUMBAQEL_MOST_SEGMENTS)];
 static uint32_t row_words[YUMBAQEL_ROW_WORDS(YUMBAQEL_MOST_ROWS)];
-static struct yumbaqel_river river, copy;
+static uint32_t shared_words[YUMBAQEL_COPY_WORDS(YUMBAQEL_MOST_SEGMENTS)], pool_river_words[YUMBAQEL_LOADING_WORDS(YUMBAQEL_MOST_SEGMENTS)];
+static uint64_t shared_wide_words[YUMBAQEL_WIDE_WORDS(YUMBAQEL_MOST_SEGMENTS)];
+static uint32_t pool_set_words[YUMBAQEL_SET_WORDS(YUMBAQEL_MOST_SEGMENTS)];
+static struct yumbaqel_river river, copy, pool_river;
+static struct yumbaqel_shared shared;
 static struct yumbaqel_refusal told;
 static struct yumbaqel_figures figures;
 static uint32_t u;
@@ -35,6 +39,36 @@ static void step(void)
 {
     river.done = 0;                /* so that M is never reached */
     told = yumbaqel_river_step(&river, u);
+}
+
+static void pool_start(void) { told = yumbaqel_shared_start(&shared, 1, &pool_river, u); }
+static void pool_report(void) { told = yumbaqel_shared_report(&shared, 1, &pool_river, pool_river.loaded.segments, &figures); }
+
+static void pool_open(void)
+{
+    shared.table.slots[0].opened = 0;
+    told = yumbaqel_shared_open(&shared, 1, &pool_river, sheet, length, reaches, YUMBAQEL_MOST_REACHES, u);
+}
+
+/* The rest of the shared lists is another river's, which is moved to the front. */
+static void pool_moving(void)
+{
+    shared.table.slots[1].opened = 1;
+    shared.table.slots[1].first = river.loaded.segments;
+    shared.table.slots[1].segments = YUMBAQEL_MOST_SEGMENTS - river.loaded.segments;
+    pool_open();
+}
+
+static void pool_step(void)
+{
+    shared.table.slots[0].steps = pool_river.done = 0;
+    told = yumbaqel_shared_step(&shared, 1, &pool_river, u);
+}
+
+static void pool_close(void)
+{
+    shared.table.slots[0].opened = 1;
+    told = yumbaqel_shared_close(&shared, 1);
 }
 
 static double seconds(void)
@@ -86,5 +120,15 @@ int main(void)
     print_time("dt", dt);
     print_time("dx", dx);
     print_time("version", version);
+    yumbaqel_shared_lend(&shared, shared_words, shared_wide_words);
+    yumbaqel_shared_lend_river(&shared, &pool_river, YUMBAQEL_MOST_SEGMENTS, pool_river_words);
+    yumbaqel_river_lend_set(&pool_river, YUMBAQEL_MOST_SEGMENTS, pool_set_words);
+    print_time("pool_open", pool_open);
+    print_time("pool_moving", pool_moving);
+    print_time("pool_start", pool_start);
+    told = yumbaqel_river_sets(&pool_river, reaches, YUMBAQEL_MOST_REACHES);
+    print_time("pool_step", pool_step);
+    print_time("pool_report", pool_report);
+    print_time("pool_close", pool_close);
     return 0;
 }

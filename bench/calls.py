@@ -4,7 +4,8 @@
 
 bench/calls.c makes the calls; the best of all runs counts. The first column is the largest river without flow rows: 1,024 segments, 64
 reaches, 256 rows, 32 gauges; the second one has 64 flow rows too, and its step is one with two sets. The others are a small river, and
-what one segment, reach, row, gauge or flow row more adds to it, each measured from the small river to that many.
+what one segment, reach, row, gauge or flow row more adds to it, each measured from the small river to that many. pool_moving is an opening
+that moves another river, which has the rest of the shared lists.
 """
 from __future__ import annotations
 

@@ -5,16 +5,21 @@
 
 #include "yumbaqel.h"
 
-/* Ends the program where a call was refused. */
-static void need(struct yumbaqel_refusal told)
+static void print_refusal(struct yumbaqel_refusal told)
 {
     static const char *const kinds[] = {"", " reach ", " segment ", " row "};
-    if (told.number == YUMBAQEL_ACCEPTED)
-        return;
     printf("refused %u%s", (unsigned)told.number, kinds[told.kind]);
     if (told.kind != YUMBAQEL_NOTHING)
         printf("%u", (unsigned)told.place);
     printf("\n");
+}
+
+/* Ends the program where a call was refused. */
+static void need(struct yumbaqel_refusal told)
+{
+    if (told.number == YUMBAQEL_ACCEPTED)
+        return;
+    print_refusal(told);
     exit(1);
 }
 

@@ -2,7 +2,7 @@
  * Yumbaqel: the OTIS river inside an intake gate controller, for C99 and C++.
  *
  * Link libyumbaqel.a, which `rt staticlib yumbaqel` writes (docs/C.md). Every function below is total: it takes any bytes, figures and
- * lengths, and its outcome is proved to be the one that documents 01 (docs/01-scope.md) and 02 (docs/02-change-requests.md, 1 and 2)
+ * lengths, and its outcome is proved to be the one that documents 01 (docs/01-scope.md) and 02 (docs/02-change-requests.md, 1 to 3)
  * set out.
  *
  * What the caller owes, for every function:
@@ -14,7 +14,8 @@
  * What every call does: what it hands out comes first among its parameters. It writes *number, *kind and *place. An accepted call has
  * number 0, kind 0 and place 0. A refused call has the refusal's number (enum yumbaqel_number) and its place: what kind it is (enum
  * yumbaqel_kind) and which one, from 1; and it writes nothing else, no list, no value. An accepted call writes the values named below
- * and the first entries of the lists named below, one for each segment (reach, row), and leaves what lies behind them.
+ * and the first entries of the lists named below, one for each segment (reach, row), and leaves what lies behind them. Of the lists that
+ * rivers share a start or step writes the river's own stretch, an opening the first entries, those of all open rivers; the rest is left.
  *
  * The library keeps nothing between calls, allocates nothing, calls nothing of its caller's, and needs at most YUMBAQEL_STACK bytes of
  * stack. Calls on different lists may run at once.
@@ -29,7 +30,7 @@
 extern "C" {
 #endif
 
-#define YUMBAQEL_VERSION 20100           /* of this header, 2.1.0: major x 10,000 + minor x 100 + patch */
+#define YUMBAQEL_VERSION 20200           /* of this header, 2.2.0: major x 10,000 + minor x 100 + patch */
 #define YUMBAQEL_SCALE 1073741824        /* one whole, 2^30 */
 #define YUMBAQEL_HIGHEST 1000000000      /* the highest concentration, ng/L */
 #define YUMBAQEL_MOST_SEGMENTS 1024
@@ -38,14 +39,16 @@ extern "C" {
 #define YUMBAQEL_MOST_ROWS 256
 #define YUMBAQEL_MOST_GAUGES 32
 #define YUMBAQEL_MOST_FLOW_ROWS 64
+#define YUMBAQEL_MOST_RIVERS 8           /* that share lists */
 #define YUMBAQEL_NO_FLOW 65              /* the number of no flow: a sheet has the flow at the top, 0, and those of its rows, up to 64 */
 #define YUMBAQEL_LONGEST_SHEET 6824      /* bytes */
-#define YUMBAQEL_STACK 2048              /* bytes of stack that any call needs at most, x86-64 */
+#define YUMBAQEL_STACK 8192              /* bytes of stack that any call needs at most, x86-64 */
 
 /*
  * The numbered refusals, in the documents' words. Where the sheet has flow rows (it is marked OTR2), these are its last section, and 2 and
  * 4 speak of the last flow row. 16 is looked at after 9. Each of 10 to 12 is looked for in the flow at the top and then in that of every
- * flow row, before the next. 13 is also a flow row's number past the rows, and in a step 14 looks at both sets.
+ * flow row, before the next. 13 is also a flow row's number past the rows, and in a step 14 looks at both sets. 17 is looked at after 12,
+ * 18 before 13; 13 is also a shared list of fewer than 1,024 entries.
  */
 enum yumbaqel_number {
     YUMBAQEL_ACCEPTED = 0,
@@ -67,7 +70,11 @@ enum yumbaqel_number {
                                       concentration exceeds its limit, or M or the count of steps exceeds 100,000 (segment; nothing
                                       for U, U', M or the count, which are looked at after all segments). */
     YUMBAQEL_STEPS_DONE = 15,      /* M or more steps are done. */
-    YUMBAQEL_FLOW_ROW = 16         /* A flow row breaks its rule (row). */
+    YUMBAQEL_FLOW_ROW = 16,        /* A flow row breaks its rule (row). */
+    YUMBAQEL_NO_ROOM = 17,         /* The number is outside 1 to 8 or already open, or the new river's segments and those of the open
+                                      ones exceed 1,024 together. */
+    YUMBAQEL_NOT_OPEN = 18         /* The named river is not open, or in the table handed in open rivers overlap or pass segment 1,024
+                                      (an opening tests only the table, a closing 18 alone). */
 };
 
 /* What the place of a refusal is. */
@@ -111,9 +118,24 @@ struct yumbaqel_loaded {
     uint32_t flow_rows;
 };
 
+/* What the table of the rivers that share lists has of a number. Where none is open under it, the other four are of no matter. */
+struct yumbaqel_slot {
+    uint32_t opened;               /* 0: no river is open under the number; anything else: one is */
+    uint32_t first;                /* its first segment among those of the shared lists, which count from 0 */
+    uint32_t segments;
+    uint32_t upstream;             /* of its state U */
+    uint32_t steps;                /* and the count of steps done */
+};
+
+/* Number r, from 1, has slots[r - 1]. A table of zeros has no river open. */
+struct yumbaqel_table {
+    struct yumbaqel_slot slots[YUMBAQEL_MOST_RIVERS];
+};
+
 /* A length of -1 where the compiler lays them out otherwise than the library. */
 typedef char yumbaqel_reach_has_64_bytes[2 * (sizeof(struct yumbaqel_reach) == 64) - 1];
 typedef char yumbaqel_loaded_has_36_bytes[2 * (sizeof(struct yumbaqel_loaded) == 36) - 1];
+typedef char yumbaqel_table_has_160_bytes[2 * (sizeof(struct yumbaqel_table) == 160) - 1];
 
 /*
  * A loading for one of the sheet's flows: row is 0 for the flow at the top, else the number of a flow row. Tests 1 to 13 and 16 on any
@@ -189,6 +211,79 @@ void yumbaqel_report(
     const uint32_t *sediment, size_t sediment_length, uint32_t upstream, uint32_t done,
     uint32_t segment);
 
+/* ---- Several rivers on shared lists. Up to eight are open at once, each under a number from 1 to 8 (river), with its own stretch of
+   three shared lists (channel, storage, sediment), of 1,024 segments in all. Their other lists are lent as before. The caller keeps the
+   table, as the call before left it; it begins with no river open. Only 17 and 18 depend on the other rivers. */
+
+/*
+ * An opening: a loading, for one of the sheet's flows, and a start in one call; u is U at step 0. Tests 1 to 12 and 16 as a loading, then
+ * 17, 18 of the table alone, 13 and 14. Accepted, it writes what a loading writes, the number's slot, and the shared lists: the open
+ * rivers' segments come to the front, in their order (the first of their slots follows them), the new river's stand behind them with the
+ * start figure, and what lies behind these stays.
+ */
+void yumbaqel_pool_open(
+    uint32_t *number, uint32_t *kind, uint32_t *place, struct yumbaqel_loaded *loaded,
+    uint32_t river, const uint8_t *sheet, size_t sheet_length, uint32_t row,
+    struct yumbaqel_reach *reaches, size_t reaches_length,
+    uint32_t *e, size_t e_length, uint32_t *g, size_t g_length, uint32_t *l, size_t l_length,
+    uint32_t *a, size_t a_length, uint32_t *b, size_t b_length, uint32_t *k, size_t k_length,
+    uint32_t *ks, size_t ks_length, uint32_t *h, size_t h_length, uint32_t *m, size_t m_length,
+    uint32_t *s, size_t s_length, uint32_t *cl, size_t cl_length, uint32_t *cb, size_t cb_length,
+    uint32_t *kd, size_t kd_length, uint32_t *start, size_t start_length,
+    uint32_t *channel, size_t channel_length, uint32_t *storage, size_t storage_length,
+    uint32_t *sediment, size_t sediment_length, struct yumbaqel_table *table,
+    uint32_t u);
+
+/* A start of an open river. Tests 18, 13 and 14. Accepted, it writes the river's stretch of the shared lists, and of its slot upstream
+   and steps, as yumbaqel_start writes its lists, *upstream and *done. */
+void yumbaqel_pool_start(
+    uint32_t *number, uint32_t *kind, uint32_t *place,
+    uint32_t river,
+    const uint32_t *e, size_t e_length, const uint32_t *g, size_t g_length, const uint32_t *l, size_t l_length,
+    const uint32_t *a, size_t a_length, const uint32_t *b, size_t b_length, const uint32_t *k, size_t k_length,
+    const uint32_t *ks, size_t ks_length, const uint32_t *h, size_t h_length, const uint32_t *m, size_t m_length,
+    const uint32_t *s, size_t s_length, const uint32_t *cl, size_t cl_length, const uint32_t *cb, size_t cb_length,
+    const uint32_t *kd, size_t kd_length, const uint32_t *start, size_t start_length,
+    uint32_t *channel, size_t channel_length, uint32_t *storage, size_t storage_length,
+    uint32_t *sediment, size_t sediment_length, struct yumbaqel_table *table,
+    uint32_t u);
+
+/* A step of an open river. Tests 18 and 13 to 15. Accepted, it writes the river's stretch of the shared lists, of its slot upstream and
+   steps, and the working lists, as yumbaqel_step does. The working lists may be the same for all rivers. */
+void yumbaqel_pool_step(
+    uint32_t *number, uint32_t *kind, uint32_t *place,
+    uint32_t river,
+    const uint32_t *e0, size_t e0_length, const uint32_t *g0, size_t g0_length, const uint32_t *l0, size_t l0_length,
+    const uint32_t *a0, size_t a0_length, const uint32_t *b0, size_t b0_length, const uint32_t *k0, size_t k0_length,
+    const uint32_t *ks0, size_t ks0_length, const uint32_t *h0, size_t h0_length, const uint32_t *m0, size_t m0_length,
+    const uint32_t *s0, size_t s0_length,
+    const uint32_t *e, size_t e_length, const uint32_t *g, size_t g_length, const uint32_t *l, size_t l_length,
+    const uint32_t *a, size_t a_length, const uint32_t *b, size_t b_length, const uint32_t *k, size_t k_length,
+    const uint32_t *ks, size_t ks_length, const uint32_t *h, size_t h_length, const uint32_t *m, size_t m_length,
+    const uint32_t *s, size_t s_length, const uint32_t *cl, size_t cl_length, const uint32_t *cb, size_t cb_length,
+    const uint32_t *kd, size_t kd_length, const uint32_t *start, size_t start_length,
+    uint32_t *channel, size_t channel_length, uint32_t *storage, size_t storage_length,
+    uint32_t *sediment, size_t sediment_length, struct yumbaqel_table *table,
+    uint64_t *p, size_t p_length, uint64_t *y, size_t y_length,
+    uint32_t u, uint32_t steps);
+
+/* A report of a segment of an open river, which counts from 1 in its own river. Tests 18, 13 and 14. Accepted, it writes *c, *z and
+   *kdw. */
+void yumbaqel_pool_report(
+    uint32_t *number, uint32_t *kind, uint32_t *place, uint32_t *c, uint32_t *z, uint64_t *kdw,
+    uint32_t river,
+    const uint32_t *e, size_t e_length, const uint32_t *g, size_t g_length, const uint32_t *l, size_t l_length,
+    const uint32_t *a, size_t a_length, const uint32_t *b, size_t b_length, const uint32_t *k, size_t k_length,
+    const uint32_t *ks, size_t ks_length, const uint32_t *h, size_t h_length, const uint32_t *m, size_t m_length,
+    const uint32_t *s, size_t s_length, const uint32_t *cl, size_t cl_length, const uint32_t *cb, size_t cb_length,
+    const uint32_t *kd, size_t kd_length, const uint32_t *start, size_t start_length,
+    const uint32_t *channel, size_t channel_length, const uint32_t *storage, size_t storage_length,
+    const uint32_t *sediment, size_t sediment_length, const struct yumbaqel_table *table,
+    uint32_t segment);
+
+/* Closes a river. Tests 18 alone. Accepted, it writes 0 to its slot's opened; its segments are used again by later openings. */
+void yumbaqel_pool_close(uint32_t *number, uint32_t *kind, uint32_t *place, uint32_t river, struct yumbaqel_table *table);
+
 /*
  * U at step j of the boundary rows, for M steps (steps). Tests 3 (the lists have 1 to 256 entries, and as many each) and 8.
  * Accepted, it writes *u.
@@ -257,6 +352,14 @@ struct yumbaqel_river {
     uint32_t rows;                 /* how many rows yumbaqel_river_rows has put into these two; 0 before */
 };
 
+/* What the rivers of a pool share: the state lists, working lists, and the table. Each river has a struct of its own beside it, for the
+   lists of its opening. */
+struct yumbaqel_shared {
+    struct yumbaqel_list channel, storage, sediment;
+    struct yumbaqel_wide_list p, y;
+    struct yumbaqel_table table;
+};
+
 struct yumbaqel_refusal {
     uint32_t number, kind, place;
 };
@@ -266,9 +369,10 @@ struct yumbaqel_figures {
     uint64_t sediment;             /* Kd x W */
 };
 
-/* Entries to lend: to a river of this many segments, for its second set, to a copy of one, to either's working lists; and for this many
-   boundary rows. */
+/* Entries to lend: to a river of this many segments, to one of a pool (the lists of its loading), for its second set, to a copy of one, to
+   either's working lists; and for this many boundary rows. */
 #define YUMBAQEL_WORDS(segments) (17 * (segments))
+#define YUMBAQEL_LOADING_WORDS(segments) (14 * (segments))
 #define YUMBAQEL_SET_WORDS(segments) (10 * (segments))
 #define YUMBAQEL_COPY_WORDS(segments) (3 * (segments))
 #define YUMBAQEL_WIDE_WORDS(segments) (2 * (segments))
@@ -321,22 +425,27 @@ static inline void yumbaqel_river_lend_set(struct yumbaqel_river *river, size_t 
     yumbaqel_set_lend(&river->sets[1], segments, words);
 }
 
-/* Lends a river YUMBAQEL_WORDS(segments) and YUMBAQEL_WIDE_WORDS(segments) entries: room for that many segments. It is not loaded yet,
-   and has no room for a second set and for rows. */
-static inline void yumbaqel_river_lend(struct yumbaqel_river *river, size_t segments, uint32_t *words, uint64_t *wide_words)
+/* Lends a river lists for its loading and none for a state: YUMBAQEL_LOADING_WORDS(segments) entries. It is not loaded yet, and has no
+   room for a second set and for rows. */
+static inline void yumbaqel_river_lend_loading(struct yumbaqel_river *river, size_t segments, uint32_t *words)
 {
     struct yumbaqel_list *const lists[] = {&river->cl, &river->cb, &river->kd, &river->start};
     const struct yumbaqel_loaded none = {0, 0, 0, 0, 0, 0, 0, 0, 0};
-    const size_t count = sizeof lists / sizeof *lists;
-    uint32_t *const behind = words + YUMBAQEL_SET_WORDS(segments);
     yumbaqel_set_lend(&river->sets[0], segments, words);
-    yumbaqel_divide(lists, count, segments, behind);
-    yumbaqel_river_lend_state(river, segments, behind + count * segments, wide_words);
+    yumbaqel_divide(lists, sizeof lists / sizeof *lists, segments, words + YUMBAQEL_SET_WORDS(segments));
     yumbaqel_river_lend_set(river, 0, words);
     yumbaqel_river_lend_rows(river, 0, words);
     river->loaded = none;
     river->sheet = (const uint8_t *)words;      /* no byte of it: a pointer is never null */
     river->sheet_length = 0;
+}
+
+/* Lends a river YUMBAQEL_WORDS(segments) and YUMBAQEL_WIDE_WORDS(segments) entries: room for that many segments. It is not loaded yet,
+   and has no room for a second set and for rows. */
+static inline void yumbaqel_river_lend(struct yumbaqel_river *river, size_t segments, uint32_t *words, uint64_t *wide_words)
+{
+    yumbaqel_river_lend_loading(river, segments, words);
+    yumbaqel_river_lend_state(river, segments, words + YUMBAQEL_LOADING_WORDS(segments), wide_words);
 }
 
 /* As arguments: the ten lists of a set, the four other lists of a loading, and those of the state. */
@@ -349,6 +458,16 @@ static inline void yumbaqel_river_lend(struct yumbaqel_river *river, size_t segm
 #define YUMBAQEL_FIGURES(r)                                                                                             \
     (r)->channel.at, (r)->channel.length, (r)->storage.at, (r)->storage.length, (r)->sediment.at, (r)->sediment.length
 
+/* What a river keeps of the sheet that was loaded. */
+static inline void yumbaqel_river_keep(struct yumbaqel_river *river, const uint8_t *sheet, size_t sheet_length)
+{
+    river->sheet = sheet;
+    river->sheet_length = sheet_length;
+    river->rows = 0;
+    river->sets[0].flow = 0;
+    river->sets[1].flow = YUMBAQEL_NO_FLOW;
+}
+
 /* A loading, for the flow at the top, into the first set. The reach records are the caller's; the river keeps where the sheet is. Its
    rows are to be taken anew, and of a second set nothing stays. */
 static inline struct yumbaqel_refusal yumbaqel_river_load(
@@ -358,13 +477,8 @@ static inline struct yumbaqel_refusal yumbaqel_river_load(
     struct yumbaqel_refusal told;
     yumbaqel_load(&told.number, &told.kind, &told.place, &river->loaded,
                   sheet, sheet_length, 0, reaches, reaches_length, YUMBAQEL_SET(&river->sets[0]), YUMBAQEL_OTHERS(river));
-    if (told.number == YUMBAQEL_ACCEPTED) {
-        river->sheet = sheet;
-        river->sheet_length = sheet_length;
-        river->rows = 0;
-        river->sets[0].flow = 0;
-        river->sets[1].flow = YUMBAQEL_NO_FLOW;
-    }
+    if (told.number == YUMBAQEL_ACCEPTED)
+        yumbaqel_river_keep(river, sheet, sheet_length);
     return told;
 }
 
@@ -522,6 +636,107 @@ static inline struct yumbaqel_refusal yumbaqel_river_copy_state(struct yumbaqel_
     }
     to->upstream = from->upstream;
     to->done = from->done;
+    return told;
+}
+
+/* ---- Rivers of a pool. A river's number is the caller's choice, and its struct is handed in beside it, the same at every call. */
+
+/* Lends YUMBAQEL_COPY_WORDS(YUMBAQEL_MOST_SEGMENTS) entries for the shared lists and YUMBAQEL_WIDE_WORDS(YUMBAQEL_MOST_SEGMENTS) for the
+   working lists. No river is open. */
+static inline void yumbaqel_shared_lend(struct yumbaqel_shared *shared, uint32_t *words, uint64_t *wide_words)
+{
+    struct yumbaqel_list *const lists[] = {&shared->channel, &shared->storage, &shared->sediment};
+    const struct yumbaqel_table none = {{{0, 0, 0, 0, 0}}};
+    yumbaqel_divide(lists, sizeof lists / sizeof *lists, YUMBAQEL_MOST_SEGMENTS, words);
+    shared->p.at = wide_words;
+    shared->p.length = YUMBAQEL_MOST_SEGMENTS;
+    shared->y.at = wide_words + YUMBAQEL_MOST_SEGMENTS;
+    shared->y.length = YUMBAQEL_MOST_SEGMENTS;
+    shared->table = none;
+}
+
+/* Lends a river of the pool YUMBAQEL_LOADING_WORDS(segments) entries. A second set and rows are lent as to any river. It has no state but
+   in the shared lists: a start, step or report of it alone is refused 13. */
+static inline void yumbaqel_shared_lend_river(
+    const struct yumbaqel_shared *shared, struct yumbaqel_river *river, size_t segments, uint32_t *words)
+{
+    yumbaqel_river_lend_loading(river, segments, words);
+    yumbaqel_river_lend_state(river, 0, words, shared->p.at);
+}
+
+/* Takes U and the count of steps over from the table into the river's struct, where the sets of its next step go by them. Of a number
+   outside 1 to 8 it does nothing. */
+static inline void yumbaqel_shared_follow(const struct yumbaqel_shared *shared, uint32_t number, struct yumbaqel_river *river)
+{
+    if (number < 1 || number > YUMBAQEL_MOST_RIVERS)
+        return;
+    river->upstream = shared->table.slots[number - 1].upstream;
+    river->done = shared->table.slots[number - 1].steps;
+}
+
+/* Opens a river under a number, for the flow at the top, with u as U at step 0. The river keeps where the sheet is, as after a loading. */
+static inline struct yumbaqel_refusal yumbaqel_shared_open(
+    struct yumbaqel_shared *shared, uint32_t number, struct yumbaqel_river *river, const uint8_t *sheet, size_t sheet_length,
+    struct yumbaqel_reach *reaches, size_t reaches_length, uint32_t u)
+{
+    struct yumbaqel_refusal told;
+    yumbaqel_pool_open(&told.number, &told.kind, &told.place, &river->loaded, number,
+                       sheet, sheet_length, 0, reaches, reaches_length, YUMBAQEL_SET(&river->sets[0]), YUMBAQEL_OTHERS(river),
+                       YUMBAQEL_FIGURES(shared), &shared->table, u);
+    if (told.number == YUMBAQEL_ACCEPTED) {
+        yumbaqel_river_keep(river, sheet, sheet_length);
+        yumbaqel_shared_follow(shared, number, river);
+    }
+    return told;
+}
+
+/* A start of a river that is open under this number. */
+static inline struct yumbaqel_refusal yumbaqel_shared_start(
+    struct yumbaqel_shared *shared, uint32_t number, struct yumbaqel_river *river, uint32_t u)
+{
+    struct yumbaqel_refusal told;
+    yumbaqel_pool_start(&told.number, &told.kind, &told.place, number, YUMBAQEL_SET(&river->sets[0]), YUMBAQEL_OTHERS(river),
+                        YUMBAQEL_FIGURES(shared), &shared->table, u);
+    if (told.number == YUMBAQEL_ACCEPTED)
+        yumbaqel_shared_follow(shared, number, river);
+    return told;
+}
+
+/* A step of it. Where the river has not the sets of that step (yumbaqel_river_sets) it is refused 13, before any other test. */
+static inline struct yumbaqel_refusal yumbaqel_shared_step(
+    struct yumbaqel_shared *shared, uint32_t number, struct yumbaqel_river *river, uint32_t u)
+{
+    struct yumbaqel_refusal told = {YUMBAQEL_SHORT_LIST, 0, 0};
+    const struct yumbaqel_set *const old_set = yumbaqel_river_set(river, yumbaqel_river_flow(river, river->done));
+    const struct yumbaqel_set *const new_set = yumbaqel_river_set(river, yumbaqel_river_flow(river, river->done + 1));
+    if (old_set == NULL || new_set == NULL)
+        return told;
+    yumbaqel_pool_step(&told.number, &told.kind, &told.place, number,
+                       YUMBAQEL_SET(old_set), YUMBAQEL_SET(new_set), YUMBAQEL_OTHERS(river),
+                       YUMBAQEL_FIGURES(shared), &shared->table,
+                       shared->p.at, shared->p.length, shared->y.at, shared->y.length, u, river->loaded.steps);
+    if (told.number == YUMBAQEL_ACCEPTED)
+        yumbaqel_shared_follow(shared, number, river);
+    return told;
+}
+
+/* A report of one of its segments, which counts from 1. */
+static inline struct yumbaqel_refusal yumbaqel_shared_report(
+    const struct yumbaqel_shared *shared, uint32_t number, const struct yumbaqel_river *river, uint32_t segment,
+    struct yumbaqel_figures *figures)
+{
+    struct yumbaqel_refusal told;
+    yumbaqel_pool_report(&told.number, &told.kind, &told.place, &figures->channel, &figures->storage, &figures->sediment,
+                         number, YUMBAQEL_SET(&river->sets[0]), YUMBAQEL_OTHERS(river), YUMBAQEL_FIGURES(shared),
+                         &shared->table, segment);
+    return told;
+}
+
+/* Closes the river of this number. Its struct and its number are free for another one. */
+static inline struct yumbaqel_refusal yumbaqel_shared_close(struct yumbaqel_shared *shared, uint32_t number)
+{
+    struct yumbaqel_refusal told;
+    yumbaqel_pool_close(&told.number, &told.kind, &told.place, number, &shared->table);
     return told;
 }
 

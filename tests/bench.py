@@ -1,4 +1,4 @@
-"""The document's bench figures and tests 13 to 15, put to the model itself.
+"""The document's bench figures and the tests 13 to 15, 17 and 18, put to the model itself.
 
 Program `river` cannot show these from outside: they hold the model to the document.
 """
@@ -15,7 +15,8 @@ import exact
 import model
 import sheets
 from model import (COLUMNS, HIGHEST, MOST_SEGMENTS, MOST_STEPS, ONE_WHOLE, SET, Lists, Numbers, Pair, Refusal, Segment,
-                   State)
+                   Slot, State)
+from pools import after_closing, after_moving, after_opening, replaced
 
 
 class Check(NamedTuple):
@@ -455,6 +456,56 @@ def accepted_calls() -> Iterator[Check]:
     yield Check("start again: count", bench.state.count, 0)
 
 
+def pool_tests() -> Iterator[Check]:
+    """17 and 18 of tables, the order of an opening's tests, and what openings, steps and closings leave."""
+    def told(call: Callable[..., Any], *handed: Any) -> Any:
+        try:
+            call(*handed)
+        except Refusal as refusal:
+            return refusal.number, refusal.place
+        return ACCEPTED
+
+    closed = Slot(0, 9, 2 ** 32 - 1, 9, 9)
+    table = [Slot(1, 10, 4, 5, 1), closed, Slot(7, 2, 3, 6, 2), Slot(1, 14, 1_000, 7, 3), *[closed] * 4]
+    for number, segments, wanted in ((2, 17, ACCEPTED), (2, 18, (17, None)), (8, 1, ACCEPTED), (0, 1, (17, None)),
+                                     (9, 1, (17, None)), (1, 1, (17, None)), (3, 1, (17, None))):
+        yield Check(f"room: {segments} as {number}", told(model.test_room, table, number, segments), wanted)
+    for number, wanted in ((1, ACCEPTED), (3, ACCEPTED), (2, (18, None)), (0, (18, None)), (9, (18, None))):
+        yield Check(f"river {number}", told(model.test_river, table, number), wanted)
+    for first, segments, wanted in ((0, 2, ACCEPTED), (0, 3, (18, None)), (4, 1, (18, None)), (5, 5, ACCEPTED),
+                                    (5, 6, (18, None)), (1_014, 10, ACCEPTED), (1_014, 11, (18, None)),
+                                    (1_013, 1, (18, None)), (20, 0, ACCEPTED), (1_024, 0, ACCEPTED),
+                                    (1_025, 0, (18, None)), (2 ** 32 - 1, 1, (18, None)), (2, 2 ** 32 - 1, (18, None))):
+        beside = replaced(table, 6, opened=1, first=first, segments=segments)
+        yield Check(f"beside others from {first} on {segments}", told(model.test_table, beside), wanted)
+
+    counted = {name: list(range(1_026)) for name in "CZW"}
+    after, lists = after_opening(table, counted, 2, [7_000, 8_000], 99)
+    yield Check("an opening: the table", after, [Slot(1, 3, 4, 5, 1), Slot(1, 1_007, 2, 99, 0), Slot(7, 0, 3, 6, 2),
+                                                 Slot(1, 7, 1_000, 7, 3), *[closed] * 4])
+    yield Check("an opening: the shared lists", [lists[name] for name in "CZW"],
+                [[2, 3, 4, *range(10, 1_014), 7_000, 8_000, *range(1_009, 1_026)]] * 3)
+    moved, lists = after_moving(table, counted, 3, State([51, 52, 53], [61, 62, 63], [71, 72, 73], 8, 4))
+    yield Check("a step: the table", moved, [*table[:2], Slot(7, 2, 3, 8, 4), *table[3:]])
+    yield Check("a step: Z", lists["Z"], [0, 1, 61, 62, 63, *range(5, 1_026)])
+    yield Check("a closing", after_closing(table, 3), [*table[:2], Slot(0, 2, 3, 6, 2), *table[3:]])
+
+    sheet, lists, records = sheets.write(sheets.plain()), Lists(9), [None] * 3
+    wide = [Slot(1, 1_000, 25, 0, 0), *[closed] * 7]
+    full = [Slot(1, 0, 1_016, 0, 0), *[closed] * 7]
+    for name, handed, wanted in (
+            ("4 before 17", (9, sheet + b"x", 0, lists, records, 0, wide, HIGHEST + 1), (4, None)),
+            ("17 before 18", (1, sheet, 0, lists, records, 0, wide, HIGHEST + 1), (17, None)),
+            ("17 by one segment", (2, sheet, 0, lists, records, 1_024, full, 0), (17, None)),
+            ("18 before 13", (2, sheet, 1, Lists(8), records, 0, wide, HIGHEST + 1), (18, None)),
+            ("13 of a list before 14", (2, sheet, 0, Lists(8), records, 1_024, table, HIGHEST + 1), (13, None)),
+            ("13 of a row before 14", (2, sheet, 1, lists, records, 1_024, table, HIGHEST + 1), (13, None)),
+            ("13 of a shared list before 14", (2, sheet, 0, lists, records, 1_023, table, HIGHEST + 1), (13, None)),
+            ("14", (2, sheet, 0, lists, records, 1_024, table, HIGHEST + 1), (14, None)),
+            ("accepted", (2, sheet, 0, lists, records, 1_024, table, HIGHEST), ACCEPTED)):
+        yield Check(f"an opening: {name}", told(model.Pool().open, *handed), wanted)
+
+
 def bracket_tests() -> Iterator[Check]:
     """The brackets hold the fractions and are narrow, on small rivers."""
     rng = random.Random("brackets")
@@ -480,4 +531,5 @@ def checks() -> Iterator[Check]:
     yield from lateral_bench()
     yield from clamp_tests()
     yield from pair_tests()
+    yield from pool_tests()
     yield from bracket_tests()

@@ -62,6 +62,11 @@ def draw_word(rng: random.Random) -> int:
     return rng.choice((0, 7, HIGHEST, HIGHEST_FIELD, rng.randint(0, HIGHEST_FIELD)))
 
 
+def draw_words(rng: random.Random, count: int) -> list[int]:
+    """That of a long one, drawn faster."""
+    return rng.choices([draw_word(rng) for _ in range(20)], k=count)
+
+
 class Shelf:
     """Everything that is lent: each buffer by its name, beside what it must hold."""
 
@@ -131,25 +136,34 @@ class Caller:
     def lend_columns(self, lengths: list[int]) -> None:
         """The fourteen lists, with any content."""
         for name, length in zip(COLUMNS, lengths):
-            self.shelf.add(name, [draw_word(self.rng) for _ in range(length)])
+            self.shelf.add(name, draw_words(self.rng, length))
 
-    def load(self, sheet: bytes, lengths: list[int], records: int, what: str, row: int = 0
-             ) -> Optional[model.Loaded]:
-        """A loading of a flow row's set into lists of these lengths."""
+    def lend_loading(self, sheet: bytes, lengths: list[int], records: int) -> tuple[model.Lists, list[Reach]]:
+        """A sheet, and lists and reach records of any content; these as the model is lent them."""
         shelf = self.shelf
         shelf.add("sheet", list(sheet), 1)
-        shelf.add("reaches", [draw_word(self.rng) for _ in range(records * len(Reach._fields))])
+        shelf.add("reaches", draw_words(self.rng, records * len(Reach._fields)))
         self.lend_columns(lengths)
         self.dirty("loaded")
         lists = model.Lists(0)
         lists.column = {name: shelf.content[name] for name in COLUMNS}
         words = shelf.content["reaches"]
-        table = [Reach(*words[at:at + 16]) for at in range(0, len(words), 16)]
+        return lists, [Reach(*words[at:at + 16]) for at in range(0, len(words), 16)]
+
+    def keep_loading(self, loaded: model.Loaded, table: list[Reach]) -> None:
+        """What an accepted loading leaves beside the lists, which the model has written."""
+        self.shelf.content["reaches"] = flat(table)
+        self.shelf.content["loaded"] = list(loaded)
+
+    def load(self, sheet: bytes, lengths: list[int], records: int, what: str, row: int = 0
+             ) -> Optional[model.Loaded]:
+        """A loading of a flow row's set into lists of these lengths."""
+        shelf = self.shelf
+        lists, table = self.lend_loading(sheet, lengths, records)
         loaded, refusal = None, None
         try:
             loaded = model.load(sheet, row, lists, table)
-            shelf.content["reaches"] = flat(table)
-            shelf.content["loaded"] = list(loaded)
+            self.keep_loading(loaded, table)
         except model.Refusal as found:
             refusal = found
         self.library.call("load", *self.references(), shelf.buffers["loaded"], shelf.whole("sheet"), U32(row),
@@ -235,7 +249,7 @@ class Change(NamedTuple):
 
 
 class Run(Caller):
-    """A river that was loaded, and its exact river, which is fed the accepted calls alone."""
+    """A river that was loaded, and its exact river, which is fed the accepted calls alone; without a kind, none."""
 
     def __init__(self, library: Library, rng: random.Random, tally: Tally, sheet: bytes, kind: str) -> None:
         super().__init__(library, rng, tally)
@@ -365,21 +379,24 @@ class Run(Caller):
 
     def begin(self, u: int) -> None:
         """A start was accepted."""
-        self.exact = exact.exact_river(self.kind, self.course, u)
+        self.exact = exact.exact_river(self.kind, self.course, u) if self.kind else None
         self.moves = 0
         self.hold()
 
     def move(self, u: int) -> None:
         """A step was accepted, lent its pair by the sheet."""
-        self.exact.step(u)
+        if self.exact is not None:
+            self.exact.step(u)
         self.moves += 1
         self.hold()
 
     def hold(self) -> None:
         """Every segment's figures are within 6 x n of the exact river's, Kd x W within 6 x n x Kd."""
         content = self.shelf.content
-        if self.exact is None or content["done"][0] != self.moves:
+        if content["done"][0] != self.moves:
             raise Difference(f"{content['done'][0]} steps counted, {self.moves} made")
+        if self.exact is None:
+            return
         for at, part in enumerate(self.course.river):
             figures = (content["C"][at], content["Z"][at], part.Kd * content["W"][at])
             far = max(exact.distances(figures, part.Kd, self.exact.figures(at)))

@@ -1,11 +1,12 @@
 /*
  * What a header says and does, on standard output: every constant, macro, enum number and field (offset and size), and then every helper
- * on rivers, by the commands on standard input. test_header.py compiles it against the header under test.
+ * on rivers and on what they share, by the commands on standard input. test_header.py compiles it against the header under test.
  *
  *     header SHEET OTHER_SHEET THIRD_SHEET < COMMANDS
  *
- * After each command both rivers are printed whole, by the names of their fields. The library is behind a recorder, which prints the
- * lengths and figures that each call was handed, or, with `marks`, answers by itself. With NAMES defined the rivers are left out.
+ * After each command both rivers and what they share are printed whole, by the names of their fields. The library is behind a recorder,
+ * which prints the lengths and figures that each call was handed, or, with `marks`, answers by itself. With NAMES defined the rivers are
+ * left out.
  */
 #include <stddef.h>
 #include <stdio.h>
@@ -21,22 +22,24 @@
 
 #define CONSTANTS(X) \
     X(YUMBAQEL_VERSION) X(YUMBAQEL_SCALE) X(YUMBAQEL_HIGHEST) X(YUMBAQEL_MOST_SEGMENTS) X(YUMBAQEL_MOST_STEPS) \
-    X(YUMBAQEL_MOST_REACHES) X(YUMBAQEL_MOST_ROWS) X(YUMBAQEL_MOST_GAUGES) X(YUMBAQEL_MOST_FLOW_ROWS) X(YUMBAQEL_NO_FLOW) \
-    X(YUMBAQEL_LONGEST_SHEET) X(YUMBAQEL_STACK)
+    X(YUMBAQEL_MOST_REACHES) X(YUMBAQEL_MOST_ROWS) X(YUMBAQEL_MOST_GAUGES) X(YUMBAQEL_MOST_FLOW_ROWS) X(YUMBAQEL_MOST_RIVERS) \
+    X(YUMBAQEL_NO_FLOW) X(YUMBAQEL_LONGEST_SHEET) X(YUMBAQEL_STACK)
 #define ENUMS(X) \
     X(YUMBAQEL_ACCEPTED) X(YUMBAQEL_MARK) X(YUMBAQEL_SHORT_SHEET) X(YUMBAQEL_COUNT) X(YUMBAQEL_LONG_SHEET) X(YUMBAQEL_HEADER) \
     X(YUMBAQEL_REACH_FIELD) X(YUMBAQEL_SEGMENTS) X(YUMBAQEL_BOUNDARY_ROW) X(YUMBAQEL_GAUGE) X(YUMBAQEL_FLOW) X(YUMBAQEL_FACE) \
     X(YUMBAQEL_SUM) X(YUMBAQEL_SHORT_LIST) X(YUMBAQEL_FIGURE) X(YUMBAQEL_STEPS_DONE) X(YUMBAQEL_FLOW_ROW) \
+    X(YUMBAQEL_NO_ROOM) X(YUMBAQEL_NOT_OPEN) \
     X(YUMBAQEL_NOTHING) X(YUMBAQEL_REACH) X(YUMBAQEL_SEGMENT) X(YUMBAQEL_ROW)
-#define MACROS(X) X(YUMBAQEL_WORDS) X(YUMBAQEL_SET_WORDS) X(YUMBAQEL_COPY_WORDS) X(YUMBAQEL_WIDE_WORDS) X(YUMBAQEL_ROW_WORDS)
-#define CHECKS(X) X(yumbaqel_reach_has_64_bytes) X(yumbaqel_loaded_has_36_bytes)
+#define MACROS(X) \
+    X(YUMBAQEL_WORDS) X(YUMBAQEL_LOADING_WORDS) X(YUMBAQEL_SET_WORDS) X(YUMBAQEL_COPY_WORDS) X(YUMBAQEL_WIDE_WORDS) X(YUMBAQEL_ROW_WORDS)
+#define CHECKS(X) X(yumbaqel_reach_has_64_bytes) X(yumbaqel_loaded_has_36_bytes) X(yumbaqel_table_has_160_bytes)
 #define STRUCTS(X) \
-    X(yumbaqel_reach) X(yumbaqel_loaded) X(yumbaqel_list) X(yumbaqel_wide_list) X(yumbaqel_set) X(yumbaqel_river) X(yumbaqel_refusal) \
-    X(yumbaqel_figures)
+    X(yumbaqel_reach) X(yumbaqel_loaded) X(yumbaqel_slot) X(yumbaqel_table) X(yumbaqel_list) X(yumbaqel_wide_list) X(yumbaqel_set) \
+    X(yumbaqel_river) X(yumbaqel_shared) X(yumbaqel_refusal) X(yumbaqel_figures)
 
 #define SET_LISTS(X, of) X(of, e) X(of, g) X(of, l) X(of, a) X(of, b) X(of, k) X(of, ks) X(of, h) X(of, m) X(of, s)
-#define LISTS(X, of) \
-    X(of, cl) X(of, cb) X(of, kd) X(of, start) X(of, channel) X(of, storage) X(of, sediment) X(of, starts) X(of, concentrations)
+#define STATE_LISTS(X, of) X(of, channel) X(of, storage) X(of, sediment)
+#define LISTS(X, of) X(of, cl) X(of, cb) X(of, kd) X(of, start) STATE_LISTS(X, of) X(of, starts) X(of, concentrations)
 #define FIELDS(X) \
     X(yumbaqel_reach, segments) X(yumbaqel_reach, dispersion) X(yumbaqel_reach, area) X(yumbaqel_reach, area2) \
     X(yumbaqel_reach, alpha) X(yumbaqel_reach, qin) X(yumbaqel_reach, qout) X(yumbaqel_reach, cl) X(yumbaqel_reach, lambda) \
@@ -45,10 +48,13 @@
     X(yumbaqel_loaded, steps) X(yumbaqel_loaded, interval) X(yumbaqel_loaded, segments) X(yumbaqel_loaded, rows_at) \
     X(yumbaqel_loaded, rows) X(yumbaqel_loaded, gauges_at) X(yumbaqel_loaded, gauges) X(yumbaqel_loaded, flow_rows_at) \
     X(yumbaqel_loaded, flow_rows) \
+    X(yumbaqel_slot, opened) X(yumbaqel_slot, first) X(yumbaqel_slot, segments) X(yumbaqel_slot, upstream) X(yumbaqel_slot, steps) \
+    X(yumbaqel_table, slots) \
     X(yumbaqel_list, at) X(yumbaqel_list, length) X(yumbaqel_wide_list, at) X(yumbaqel_wide_list, length) \
     SET_LISTS(X, yumbaqel_set) X(yumbaqel_set, flow) X(yumbaqel_river, sets) \
     LISTS(X, yumbaqel_river) X(yumbaqel_river, p) X(yumbaqel_river, y) X(yumbaqel_river, upstream) X(yumbaqel_river, done) \
     X(yumbaqel_river, loaded) X(yumbaqel_river, sheet) X(yumbaqel_river, sheet_length) X(yumbaqel_river, rows) \
+    STATE_LISTS(X, yumbaqel_shared) X(yumbaqel_shared, p) X(yumbaqel_shared, y) X(yumbaqel_shared, table) \
     X(yumbaqel_refusal, number) X(yumbaqel_refusal, kind) X(yumbaqel_refusal, place) \
     X(yumbaqel_figures, channel) X(yumbaqel_figures, storage) X(yumbaqel_figures, sediment)
 
@@ -106,9 +112,10 @@ static void print_struct(const char *what, const char *structure, const void *at
     printf("\n");
 }
 
-/* ---- Rivers, and the memory that they are lent. Every entry has a figure of its own before. */
+/* ---- Rivers, what they share, and the memory that they are lent. Every entry has a figure of its own before. */
 
 #define SHOWN 7                    /* entries of a list that are printed: more than the river has segments */
+#define SHARED_SHOWN 17            /* of a shared list: more than three rivers have */
 #define ROOM 1100                  /* entries of a list: more than a river may have */
 #define ROW_ROOM 16
 
@@ -116,10 +123,11 @@ static uint8_t sheets[3][YUMBAQEL_LONGEST_SHEET + 1];
 static size_t lengths[3];
 static struct yumbaqel_reach reaches[3];
 static uint32_t words[17 * ROOM], copy_words[3 * ROOM], row_words[2 * ROW_ROOM];
-static uint32_t set_words[10 * ROOM];
-static uint64_t wide_words[2 * ROOM], copy_wide_words[2 * ROOM];
+static uint32_t set_words[10 * ROOM], river_words[14 * ROOM], shared_words[3 * ROOM];
+static uint64_t wide_words[2 * ROOM], copy_wide_words[2 * ROOM], shared_wide_words[2 * ROOM];
 static struct yumbaqel_river rivers[2];
-static int lent[2];
+static struct yumbaqel_shared shared;
+static int lent[2], shared_lent;
 
 static const struct {
     const char *name;
@@ -129,13 +137,16 @@ static const struct {
     {"words", words, SIZE(words), sizeof *words}, {"copy_words", copy_words, SIZE(copy_words), sizeof *copy_words},
     {"row_words", row_words, SIZE(row_words), sizeof *row_words}, {"wide_words", wide_words, SIZE(wide_words), sizeof *wide_words},
     {"copy_wide_words", copy_wide_words, SIZE(copy_wide_words), sizeof *copy_wide_words},
-    {"set_words", set_words, SIZE(set_words), sizeof *set_words},
+    {"set_words", set_words, SIZE(set_words), sizeof *set_words}, {"river_words", river_words, SIZE(river_words), sizeof *river_words},
+    {"shared_words", shared_words, SIZE(shared_words), sizeof *shared_words},
+    {"shared_wide_words", shared_wide_words, SIZE(shared_wide_words), sizeof *shared_wide_words},
     {"sheet", sheets, SIZE(sheets), sizeof *sheets}};
 
 static void fill(void)
 {
     uint32_t i, j;
     memset(rivers, 0xA5, sizeof rivers);
+    memset(&shared, 0xA5, sizeof shared);
     memset(reaches, 0xA5, sizeof reaches);
     for (i = 0; i < SIZE(memories); i++)
         for (j = 0; j < memories[i].count; j++)
@@ -160,13 +171,13 @@ static void print_place(const void *at)
     printf(" ?");
 }
 
-static void print_list(const char *name, const struct yumbaqel_list *list)
+static void print_list(const char *name, const struct yumbaqel_list *list, size_t shown)
 {
     size_t i;
     printf(" %s", name);
     print_place(list->at);
     printf(" %llu:", UNSIGNED(list->length));
-    for (i = 0; i < SHOWN && i < list->length; i++)
+    for (i = 0; i < shown && i < list->length; i++)
         printf(" %llu", UNSIGNED(list->at[i]));
     printf("\n");
 }
@@ -183,8 +194,9 @@ static void print_wide_list(const char *name, const struct yumbaqel_wide_list *l
 }
 
 static const struct field lists[] = {LISTS(FIELD, yumbaqel_river)}, set_lists[] = {SET_LISTS(FIELD, yumbaqel_set)};
+static const struct field shared_lists[] = {STATE_LISTS(FIELD, yumbaqel_shared)};
 
-/* A list of a river or of a set. */
+/* A list of a river, of a set or of the shared. */
 static struct yumbaqel_list *list_of(void *structure, const struct field *field)
 {
     return (struct yumbaqel_list *)(void *)((char *)structure + field->offset);
@@ -196,16 +208,28 @@ static void print_river(struct yumbaqel_river *river)
     for (set = 0; set < SIZE(river->sets); set++) {
         printf(" set %llu flow %llu\n", UNSIGNED(set), UNSIGNED(river->sets[set].flow));
         for (i = 0; i < SIZE(set_lists); i++)
-            print_list(set_lists[i].name, list_of(&river->sets[set], &set_lists[i]));
+            print_list(set_lists[i].name, list_of(&river->sets[set], &set_lists[i]), SHOWN);
     }
     for (i = 0; i < SIZE(lists); i++)
-        print_list(lists[i].name, list_of(river, &lists[i]));
+        print_list(lists[i].name, list_of(river, &lists[i]), SHOWN);
     print_wide_list("p", &river->p);
     print_wide_list("y", &river->y);
     printf(" upstream %llu done %llu rows %llu sheet", UNSIGNED(river->upstream), UNSIGNED(river->done), UNSIGNED(river->rows));
     print_place(river->sheet);
     printf(" length %llu\n", UNSIGNED(river->sheet_length));
     print_struct("loaded", "yumbaqel_loaded", &river->loaded);
+}
+
+static void print_shared(void)
+{
+    size_t i;
+    printf(" shared\n");
+    for (i = 0; i < SIZE(shared_lists); i++)
+        print_list(shared_lists[i].name, list_of(&shared, &shared_lists[i]), SHARED_SHOWN);
+    print_wide_list("p", &shared.p);
+    print_wide_list("y", &shared.y);
+    for (i = 0; i < SIZE(shared.table.slots); i++)
+        print_struct("slot", "yumbaqel_slot", &shared.table.slots[i]);
 }
 
 static void print_told(struct yumbaqel_refusal told)
@@ -239,8 +263,18 @@ static struct yumbaqel_list *named(struct yumbaqel_river *river, const char *nam
 static int lend(const char *name, struct yumbaqel_river *river, size_t first)
 {
     const struct yumbaqel_river *const origin = &rivers[0];
+    const struct yumbaqel_shared *const lasting = &shared;
     struct yumbaqel_list *two[2];
-    if (IS("lend"))
+    if (IS("shared_lend")) {
+        yumbaqel_shared_lend(&shared, shared_words, shared_wide_words);
+        shared_lent = 1;
+        return 1;
+    }
+    if (IS("shared_lend_river"))
+        yumbaqel_shared_lend_river(lasting, river, first, river == rivers ? words : river_words);
+    else if (IS("lend_loading"))
+        yumbaqel_river_lend_loading(river, first, river_words);
+    else if (IS("lend"))
         yumbaqel_river_lend(river, first, words, wide_words);
     else if (IS("lend_state"))
         yumbaqel_river_lend_state(river, first, copy_words, copy_wide_words);
@@ -327,6 +361,59 @@ static int call(const char *name, struct yumbaqel_river *river, uint32_t first, 
     return 1;
 }
 
+/* What is done with a river of the pool: its number, and one figure more. The sheet of an opening is named by its place among them. */
+static int shared_call(const char *name, struct yumbaqel_river *river, const char *field, uint32_t number, uint32_t second)
+{
+    const struct yumbaqel_river *const lasting = river;
+    const struct yumbaqel_shared *const standing = &shared;
+    const size_t which = strcmp(field, "other") == 0 ? 1 : strcmp(field, "third") == 0 ? 2 : 0;
+    const uint8_t *const sheet = sheets[which];
+    struct yumbaqel_figures figures = {41, 42, 43};
+    size_t i;
+    if (IS("open")) {
+        print_told(yumbaqel_shared_open(&shared, number, river, sheet, lengths[which], reaches, SIZE(reaches), second));
+        for (i = 0; i < SIZE(reaches); i++)
+            print_struct("reach", "yumbaqel_reach", &reaches[i]);
+    } else if (IS("shared_start"))
+        print_told(yumbaqel_shared_start(&shared, number, river, second));
+    else if (IS("shared_step"))
+        print_told(yumbaqel_shared_step(&shared, number, river, second));
+    else if (IS("shared_report")) {
+        print_told(yumbaqel_shared_report(standing, number, lasting, second, &figures));
+        print_struct("reported", "yumbaqel_figures", &figures);
+    } else if (IS("close"))
+        print_told(yumbaqel_shared_close(&shared, number));
+    else if (IS("follow"))
+        yumbaqel_shared_follow(standing, number, river);
+    else if (IS("keep"))
+        yumbaqel_river_keep(river, sheet, second);
+    else
+        return 0;
+    return 1;
+}
+
+/* What no helper does to what the rivers share: a list told shorter, a figure of the table. */
+static int shared_change(const char *name, const char *field, size_t first, uint32_t second)
+{
+    size_t i;
+    if (IS("shared_working")) {
+        shared.p.length = first;
+        shared.y.length = second;
+        return 1;
+    }
+    for (i = 0; IS("shared_length") && i < SIZE(shared_lists); i++)
+        if (strcmp(field, shared_lists[i].name) == 0) {
+            list_of(&shared, &shared_lists[i])->length = first;
+            return 1;
+        }
+    for (i = 0; IS("slot") && i < SIZE(fields); i++)
+        if (strcmp(fields[i].structure, "yumbaqel_slot") == 0 && strcmp(field, fields[i].name) == 0) {
+            memcpy((char *)&shared.table.slots[first - 1] + fields[i].offset, &second, sizeof second);
+            return 1;
+        }
+    return 0;
+}
+
 /* What no helper does: a list told shorter, a figure put into it, a figure of the struct. */
 static int change(const char *name, struct yumbaqel_river *river, const char *field, size_t first, uint32_t second)
 {
@@ -376,11 +463,15 @@ int main(int count, char **arguments)
             return 2;
         printf("%s", line);
         if (!lend(name, &rivers[which], first) && !call(name, &rivers[which], (uint32_t)first, (uint32_t)second)
-            && !change(name, &rivers[which], field, first, (uint32_t)second))
+            && !change(name, &rivers[which], field, first, (uint32_t)second)
+            && !shared_call(name, &rivers[which], field, (uint32_t)first, (uint32_t)second)
+            && !shared_change(name, field, first, (uint32_t)second))
             return 2;
         for (which = 0; which < SIZE(rivers); which++)
             if (lent[which])
                 print_river(&rivers[which]);
+        if (shared_lent)
+            print_shared();
     }
     return 0;
 }

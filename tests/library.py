@@ -11,7 +11,7 @@ from array import array
 from pathlib import Path
 from typing import NamedTuple, Union
 
-from model import SET, Reach
+from model import SET, Reach, Slot
 
 ROOT = Path(__file__).parent.parent
 INCLUDE = f"-I{ROOT / 'include'}"
@@ -19,7 +19,8 @@ STRICT = ("-pedantic", "-Wall", "-Wextra", "-Werror")
 OLD = tuple(f"{name}0" for name in SET)     # the lists of a step's old side, which stand in front of the others
 FIGURES = ("C", "Z", "W")           # the state's lists
 WORKING = ("p", "y")
-CALLS = ("load", "start", "step", "report", "upstream", "rows")
+POOL_CALLS = ("pool_open", "pool_start", "pool_step", "pool_report", "pool_close")
+CALLS = ("load", "start", "step", "report", "upstream", "rows", *POOL_CALLS)
 READINGS = ("gauge", "flow", "dt", "dx", "version")     # these have a result and no answer
 KINDS = {0: None, 1: "reach", 2: "segment", 3: "row"}
 TYPES = {1: "B", 4: "I", 8: "Q"}    # by the bytes of an entry
@@ -122,6 +123,6 @@ class Library:
         return self.function(name)(*passed(list(arguments)))
 
 
-def flat(records: list[Reach]) -> list[int]:
-    """Reach records as the sixteen fields of each in turn."""
+def flat(records: list[Reach] | list[Slot]) -> list[int]:
+    """Reach records, or a table, as the fields of each in turn."""
     return [figure for record in records for figure in record]

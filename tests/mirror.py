@@ -1,4 +1,4 @@
-"""Rivers of the header's helpers, by the model: what header.c must print for its commands."""
+"""Rivers and what they share, by the model: what header.c must print for its commands on the header's helpers."""
 from __future__ import annotations
 
 from collections.abc import Callable
@@ -8,7 +8,9 @@ import model
 import sheets
 from calls import place_of
 from library import FIGURES
-from model import COLUMNS, HIGHEST, HIGHEST_KD, MOST_FLOW_ROWS, MOST_SEGMENTS, MOST_STEPS, SET, Row
+from model import (COLUMNS, HIGHEST, HIGHEST_KD, MOST_FLOW_ROWS, MOST_RIVERS, MOST_SEGMENTS, MOST_STEPS, SET, Row, Slot,
+                   Table)
+from pools import after_closing, after_moving, after_opening, replaced
 from signatures import MARKS, RESULT_MARK, Signature, recorded
 
 # The header's names for the document's.
@@ -25,11 +27,11 @@ SETS = (0, 1)                       # of a river
 NO_FLOW = MOST_FLOW_ROWS + 1
 
 # Lists that each macro counts.
-MACROS = {"WORDS": len(COLUMNS) + len(STATE_LISTS), "SET_WORDS": len(SET), "COPY_WORDS": len(STATE_LISTS),
-          "WIDE_WORDS": len(WIDE_LISTS), "ROW_WORDS": len(ROW_LISTS)}
+MACROS = {"WORDS": len(COLUMNS) + len(STATE_LISTS), "LOADING_WORDS": len(COLUMNS), "SET_WORDS": len(SET),
+          "COPY_WORDS": len(STATE_LISTS), "WIDE_WORDS": len(WIDE_LISTS), "ROW_WORDS": len(ROW_LISTS)}
 
 DIRTY = 0xA5A5A5A5
-SHOWN = 7                           # entries of a list that header.c prints
+SHOWN, SHARED_SHOWN = 7, 17         # entries of a list that header.c prints, of a river and of what rivers share
 ROOM, ROW_ROOM, RECORDS = 1_100, 16, 3
 MEMORY = {                          # the first figure of each memory, and how many it has
     "words": (1_000_000, MACROS["WORDS"] * ROOM),
@@ -38,7 +40,11 @@ MEMORY = {                          # the first figure of each memory, and how m
     "wide_words": (4_000_000, MACROS["WIDE_WORDS"] * ROOM),
     "copy_wide_words": (5_000_000, MACROS["WIDE_WORDS"] * ROOM),
     "set_words": (6_000_000, MACROS["SET_WORDS"] * ROOM),
+    "river_words": (7_000_000, MACROS["LOADING_WORDS"] * ROOM),
+    "shared_words": (8_000_000, MACROS["COPY_WORDS"] * ROOM),
+    "shared_wide_words": (9_000_000, MACROS["WIDE_WORDS"] * ROOM),
 }
+SHEETS = ("first", "other", "third")        # as an opening names them
 
 
 def set_lists(at: int) -> tuple[str, ...]:
@@ -95,6 +101,21 @@ class Mirrored:
         return found
 
 
+class MirroredShared:
+    """A struct yumbaqel_shared."""
+
+    def __init__(self) -> None:
+        self.lists: dict[str, Stretch] = {}
+        self.table: Table = [Slot(0, 0, 0, 0, 0)] * MOST_RIVERS
+
+    @property
+    def shortest(self) -> int:
+        return min(self.lists[name].length for name in STATE_LISTS)
+
+    def lengths(self) -> dict[str, int]:
+        return {f"{name}_length": stretch.length for name, stretch in self.lists.items()}
+
+
 class Mirror:
     """What header.c prints for commands, where each call of the library is the model's."""
 
@@ -104,20 +125,22 @@ class Mirror:
         self.memory = {name: [first + at for at in range(count)] for name, (first, count) in MEMORY.items()}
         self.reaches = [model.Reach(*[DIRTY] * len(REACH))] * RECORDS
         self.rivers: list[Optional[Mirrored]] = [None, None]
+        self.shared: Optional[MirroredShared] = None
         self.marks = False
         self.lines: list[str] = []
 
     # lists
 
-    def content(self, river: Mirrored, name: str) -> list[int]:
+    def content(self, river: Mirrored | MirroredShared, name: str) -> list[int]:
         memory, at, length = river.lists[name]
         return self.memory[memory][at:at + length]
 
-    def write(self, river: Mirrored, name: str, content: list[int]) -> None:
+    def write(self, river: Mirrored | MirroredShared, name: str, content: list[int]) -> None:
         memory, at, _ = river.lists[name]
         self.memory[memory][at:at + len(content)] = content
 
-    def divide(self, river: Mirrored, names: tuple[str, ...], length: int, memory: str, at: int = 0) -> None:
+    def divide(self, river: Mirrored | MirroredShared, names: tuple[str, ...], length: int, memory: str, at: int = 0
+               ) -> None:
         for number, name in enumerate(names):
             river.lists[name] = Stretch(memory, at + number * length, length)
 
@@ -130,15 +153,32 @@ class Mirror:
         self.divide(river, set_lists(at), segments, words)
         river.flows[at] = NO_FLOW
 
+    def lend_loading(self, river: Mirrored, length: int, words: str) -> None:
+        """The lists of a loading; nothing stays of one before."""
+        self.lend_set(river, 0, length, words)
+        self.lend_set(river, 1, 0, words)
+        self.divide(river, tuple(OTHER_LISTS), length, words, len(SET) * length)
+        self.divide(river, ROW_LISTS, 0, words)
+        river.rows, river.loaded = 0, dict.fromkeys(LOADED, 0)
+        river.sheet, river.bytes = f"{words} 0", b""
+
     def lend(self, command: Command) -> None:
         length = command.first
         if command.name == "lend":
             river = self.rivers[command.river] = Mirrored()
-            self.lend_set(river, 0, length, "words")
-            self.lend_set(river, 1, 0, "words")
-            self.divide(river, tuple(OTHER_LISTS), length, "words", len(SET) * length)
+            self.lend_loading(river, length, "words")
             self.lend_state(river, length, "words", "wide_words", len(COLUMNS) * length)
-            self.divide(river, ROW_LISTS, 0, "words")
+        elif command.name == "lend_loading":
+            self.lend_loading(self.rivers[command.river], length, "river_words")
+        elif command.name == "shared_lend":
+            self.shared = MirroredShared()
+            self.divide(self.shared, tuple(STATE_LISTS), MOST_SEGMENTS, "shared_words")
+            self.divide(self.shared, WIDE_LISTS, MOST_SEGMENTS, "shared_wide_words")
+        elif command.name == "shared_lend_river":
+            river = self.rivers[command.river] = Mirrored()
+            words = "river_words" if command.river else "words"
+            self.lend_loading(river, length, words)
+            self.lend_state(river, 0, words, "shared_wide_words")
         elif command.name == "lend_copy":
             river = self.rivers[command.river] = self.rivers[0].copy()
             self.lend_state(river, length, "copy_words", "copy_wide_words")
@@ -156,7 +196,7 @@ class Mirror:
 
     # calls
 
-    def made(self, name: str, river: Mirrored, answer: Callable[[], None], **handed: int) -> Told:
+    def made(self, name: str, river: Mirrored, answer: Callable[[], None], /, **handed: int) -> Told:
         """A call of the library: number, kind and place."""
         self.record(name, river, **handed)
         if self.marks:
@@ -167,13 +207,13 @@ class Mirror:
             return place_of(refusal)
         return ACCEPTED
 
-    def call(self, name: str, river: Mirrored, answer: Callable[[], None], **handed: int) -> bool:
+    def call(self, name: str, river: Mirrored, answer: Callable[[], None], /, **handed: int) -> bool:
         """A helper that makes one call and tells its answer; whether it was accepted."""
         told = self.made(name, river, answer, **handed)
         self.tell(told)
         return told == ACCEPTED
 
-    def record(self, name: str, river: Mirrored, **handed: int) -> None:
+    def record(self, name: str, river: Mirrored, /, **handed: int) -> None:
         values = {f"{each}_length": stretch.length for each, stretch in river.lists.items()}
         values |= {"n": river.loaded["segments"], "sheet_length": len(river.bytes), "upstream": river.upstream,
                    "done": river.done, "steps": river.loaded["steps"], **handed}
@@ -231,10 +271,8 @@ class Mirror:
         self.tell(told)
         if told == ACCEPTED:
             river.loaded = {name: getattr(loaded, each) for name, each in LOADED.items()}
-            river.sheet, river.bytes, river.rows = f"sheet {which}", sheet, 0
-            river.flows[1] = NO_FLOW
-        self.lines += [" reach" + "".join(f" {name} {getattr(reach, each)}" for name, each in REACH.items())
-                       for reach in self.reaches]
+            self.keep_sheet(river, which)
+        self.show_reaches()
 
     def rows(self, river: Mirrored) -> None:
         begin = model.row_count_at(river.bytes)
@@ -337,8 +375,117 @@ class Mirror:
         to.upstream, to.done = source.upstream, source.done
         self.tell(ACCEPTED)
 
+    # what the rivers share: the table and the shared lists; the model's rivers are what stands there
+
+    def pooled(self) -> model.Pool:
+        return model.Pool.of(self.shared.table, *(self.content(self.shared, name) for name in STATE_LISTS))
+
+    def shared_lists(self) -> dict[str, list[int]]:
+        return {name: self.content(self.shared, name) for name in STATE_LISTS}
+
+    def keep_pool(self, number: int, river: Mirrored, table: Table, shared: dict[str, list[int]]) -> None:
+        """What an accepted opening, start or step leaves; the river's struct follows its slot."""
+        self.shared.table = table
+        for name, content in shared.items():
+            self.write(self.shared, name, content)
+        self.follow(river, number)
+
+    def follow(self, river: Mirrored, number: int) -> None:
+        if 1 <= number <= MOST_RIVERS:
+            slot = self.shared.table[number - 1]
+            river.upstream, river.done = slot.upstream, slot.steps
+
+    def keep_sheet(self, river: Mirrored, which: int, length: Optional[int] = None) -> None:
+        river.sheet, river.bytes, river.rows = f"sheet {which}", self.given[which][:length], 0
+        river.flows = [0, NO_FLOW]
+
+    def open(self, river: Mirrored, which: int, number: int, u: int) -> None:
+        sheet, shared = self.given[which], self.shared
+        lists, _ = self.lent(river)
+        loaded: Optional[model.Loaded] = None
+
+        def answer() -> None:
+            nonlocal loaded
+            loaded = self.pooled().open(number, sheet, 0, lists, self.reaches, shared.shortest, shared.table, u)
+
+        if self.call("pool_open", river, answer, **self.lengths(river), **shared.lengths(), sheet_length=len(sheet),
+                     row=0, reaches_length=RECORDS, river=number, u=u):
+            for name, column in lists.column.items():
+                self.write(river, f"0.{name}" if name in SET else name.lower(), column)
+            river.loaded = {name: getattr(loaded, each) for name, each in LOADED.items()}
+            self.keep_sheet(river, which)
+            starts = lists.column["start"][:loaded.segments]
+            self.keep_pool(number, river, *after_opening(shared.table, self.shared_lists(), number, starts, u))
+        self.show_reaches()
+
+    def move(self, name: str, river: Mirrored, number: int, answer: Callable[[model.Pool], None], **handed: int
+             ) -> bool:
+        """A start or a step of an open river."""
+        pool = self.pooled()
+        if not self.call(name, river, lambda: answer(pool), **{**self.shared.lengths(), **handed}, river=number):
+            return False
+        moved = after_moving(self.shared.table, self.shared_lists(), number, pool.rivers[number])
+        self.keep_pool(number, river, *moved)
+        return True
+
+    def shared_start(self, river: Mirrored, number: int, u: int) -> None:
+        lists, shared = self.lent(river)[0], self.shared
+        self.move("pool_start", river, number, lambda pool: pool.start(number, lists, shared.shortest, shared.table, u),
+                  **self.lengths(river), u=u)
+
+    def shared_step(self, river: Mirrored, number: int, u: int) -> None:
+        shared, flows = self.shared, self.pair(river)
+        if not set(flows) <= set(river.flows):
+            self.tell(place_of(model.Refusal(13)))
+            return
+        old, new = map(river.flows.index, flows)
+        before, lists = self.lent_set(river, old), self.lent(river, new)[0]
+        p, y = (self.content(shared, name) for name in WIDE_LISTS)
+        if self.move("pool_step", river, number,
+                     lambda pool: pool.step(number, before, lists, shared.shortest, shared.table, p, y, u,
+                                            river.loaded["steps"]),
+                     **self.lengths(river, old, "0"), **self.lengths(river, new), u=u):
+            self.write(shared, "p", p)
+            self.write(shared, "y", y)
+
+    def shared_report(self, river: Mirrored, number: int, segment: int) -> None:
+        lists, shared, figures = self.lent(river)[0], self.shared, (41, 42, 43)
+
+        def answer() -> None:
+            nonlocal figures
+            figures = self.pooled().report(number, lists, shared.shortest, shared.table, segment)
+
+        self.call("pool_report", river, answer, **self.lengths(river), **shared.lengths(), river=number,
+                  segment=segment)
+        self.lines.append(" reported channel {} storage {} sediment {}".format(*figures))
+
+    def close(self, river: Mirrored, number: int) -> None:
+        if self.call("pool_close", river, lambda: self.pooled().close(number, self.shared.table), river=number):
+            self.shared.table = after_closing(self.shared.table, number)
+
+    def do_shared(self, command: Command) -> None:
+        river, name, first, second = self.rivers[command.river], command.name, command.first, command.second
+        which = SHEETS.index(command.field) if command.field in SHEETS else 0
+        if name == "open":
+            self.open(river, which, first, second)
+        elif name in ("shared_start", "shared_step", "shared_report"):
+            getattr(self, name)(river, first, second)
+        elif name == "close":
+            self.close(river, first)
+        elif name == "follow":
+            self.follow(river, first)
+        elif name == "keep":
+            self.keep_sheet(river, which, second)
+        elif name == "shared_length":
+            self.shared.lists[command.field] = self.shared.lists[command.field]._replace(length=first)
+        elif name == "shared_working":
+            for each, length in zip(WIDE_LISTS, (first, second)):
+                self.shared.lists[each] = self.shared.lists[each]._replace(length=length)
+        elif name == "slot":
+            self.shared.table = replaced(self.shared.table, first, **{command.field: second})
+
     def do(self, command: Command) -> None:
-        """One command, then both rivers as they stand."""
+        """One command, then both rivers and what they share as they stand."""
         self.lines.append(str(command))
         self.lend(command)
         river, name, first = self.rivers[command.river], command.name, command.first
@@ -374,13 +521,29 @@ class Mirror:
             river.done = first
         elif name == "marks":
             self.marks = bool(first)
+        self.do_shared(command)
         for each in self.rivers:
             if each is not None:
                 self.show(each)
+        if self.shared is not None:
+            self.show_shared()
 
-    def show_list(self, river: Mirrored, name: str) -> None:
+    def show_reaches(self) -> None:
+        self.lines += [" reach" + "".join(f" {name} {getattr(reach, each)}" for name, each in REACH.items())
+                       for reach in self.reaches]
+
+    def show_shared(self) -> None:
+        self.lines.append(" shared")
+        for name in STATE_LISTS:
+            self.show_list(self.shared, name, SHARED_SHOWN)
+        for name in WIDE_LISTS:
+            self.show_list(self.shared, name)
+        self.lines += [" slot" + "".join(f" {name} {figure}" for name, figure in slot._asdict().items())
+                       for slot in self.shared.table]
+
+    def show_list(self, river: Mirrored | MirroredShared, name: str, shown: int = SHOWN) -> None:
         memory, at, length = river.lists[name]
-        content = "".join(f" {figure}" for figure in self.content(river, name)[:SHOWN])
+        content = "".join(f" {figure}" for figure in self.content(river, name)[:shown])
         self.lines.append(f" {name.split('.')[-1]} {memory} {at} {length}:{content}")
 
     def show(self, river: Mirrored) -> None:
@@ -415,7 +578,8 @@ def with_flow_rows(draft: sheets.Draft) -> sheets.Draft:
 
 def commands(draft: sheets.Draft) -> list[Command]:
     """Every helper, accepted and refused, on lists of different lengths, before a loading and after it."""
-    return [Command.of(line) for line in (*plain_commands(draft), *flow_commands(with_flow_rows(draft)))]
+    flowing = with_flow_rows(draft)
+    return [Command.of(line) for line in (*plain_commands(draft), *flow_commands(flowing), *shared_commands(flowing))]
 
 
 def plain_commands(draft: sheets.Draft) -> list[str]:
@@ -482,4 +646,50 @@ def flow_commands(draft: sheets.Draft) -> list[str]:
     found += ["marks 0 1", "flow 0 2", prepared, "load_flow 0 2 1", "step 0 1", "marks 0"]
     # a sheet without flow rows again, and one that is refused
     found += ["load 0 1", "load 0", "set 0 1", "step 0 7"]
+    return found
+
+
+def shared_commands(draft: sheets.Draft) -> list[str]:
+    """Two rivers of a pool: that of the sheet with flow rows, which is the third, and that of the first."""
+    n, M = draft.segments, draft.header.M
+    prepared = f"sets 0 {RECORDS}"
+    lent = (*set_lists(0), *OTHER_LISTS)
+    found = ["shared_lend 0", f"shared_lend_river 0 {ROOM}", f"shared_lend_river 1 {ROOM - 1}", f"lend_set 0 {ROOM}",
+             *(f"length {river} {name} {ROOM - 20 * river - at}" for river in (0, 1) for at, name in enumerate(lent)),
+             *(f"length 0 {name} {ROOM - 50 - at}" for at, name in enumerate(set_lists(1))),
+             *(f"shared_length 0 {name} {MOST_SEGMENTS + 3 - at}" for at, name in enumerate(STATE_LISTS)),
+             f"shared_working 0 {MOST_SEGMENTS - 1} {MOST_SEGMENTS - 2}"]
+    # nothing is open; a river of the pool has no state of its own
+    calls = ("shared_start {0} {1} 5", "shared_step {0} {1} 6", "shared_report {0} {1} 1", "close {0} {1}")
+    found += [call.format(0, 3) for call in calls]
+    found += ["load 0 2", "start 0 5", prepared, "step 0 6", "report 0 1"]
+    # openings, refused and accepted
+    found += ["open 0 other 3 700", f"open 0 third 3 {HIGHEST + 1}", "open 0 third 0 700", "open 0 third 9 700",
+              "open 0 third 3 700", "open 0 third 3 701", "open 1 first 3 800", "open 1 first 8 800"]
+    # the sets of each step, as of a river alone; the two in turn
+    for j in range(M):
+        found += [f"shared_step 0 3 {40_000 + j}", prepared, f"shared_step 0 3 {50_000 + j}",
+                  f"shared_step 1 8 {60_000 + j}", f"shared_report 0 3 {1 + j % n}", f"shared_report 1 8 {1 + j % n}"]
+    found += ["shared_step 1 8 1", f"shared_report 0 3 {n + 1}", f"shared_start 0 3 {HIGHEST + 1}",
+              "shared_start 0 3 900", "shared_step 0 3 8", prepared, "shared_step 0 3 9", "shared_start 1 8 901",
+              "steps 1 2", "shared_step 1 8 10", "shared_step 1 8 11", "shared_step 1 8 12"]
+    # a number outside 1 to 8 has no slot to follow
+    found += [f"follow 0 {number}" for number in (8, 0, MOST_RIVERS + 1, sheets.HIGHEST_FIELD, 1, 3)]
+    # numbers, short lists, and tables at fault
+    for number in (0, 9, 4):
+        found += [call.format(0, number) for call in calls]
+    for at, name in enumerate(STATE_LISTS):
+        found += [f"shared_length 0 {name} {MOST_SEGMENTS - 1}", "open 1 first 1 5",
+                  *(call.format(1, 8) for call in calls[:3]), f"shared_length 0 {name} {MOST_SEGMENTS + 3 - at}"]
+    found += [f"shared_working 0 {n - 1} {n}", "shared_step 1 8 5", f"shared_working 0 {n} {n - 1}",
+              "shared_step 1 8 5", f"shared_working 0 {MOST_SEGMENTS - 1} {MOST_SEGMENTS - 2}"]
+    for name, figure in (("first", n - 1), ("first", MOST_SEGMENTS), ("segments", MOST_SEGMENTS)):
+        found += [f"slot 0 {name} 8 {figure}", "open 0 third 1 5", *(call.format(0, 3) for call in calls),
+                  f"slot 0 {name} 8 {n}"]
+    # closed and opened again, which moves the other one; then a sheet that is kept alone
+    found += ["slot 0 opened 8 77", "close 0 3", "shared_step 0 3 5", "open 0 first 5 600", "shared_report 1 8 2",
+              "shared_step 0 5 30", "shared_start 1 8 31", "close 1 8", "close 1 8", "open 1 third 8 32",
+              f"sets 1 {RECORDS}", "shared_report 1 8 3", "marks 0 1", "open 0 first 2 1",
+              *(call.format(0, 5) for call in calls), "marks 0",
+              "keep 0 third 77", f"lend_loading 0 {ROOM - 3}", "shared_lend 0"]
     return found

@@ -23,7 +23,8 @@ class Signature(NamedTuple):
 
 
 NUMBERS = {"u32": "uint32_t ", "usize": "size_t ", "&mut u32": "uint32_t *", "&mut u64": "uint64_t *",
-           "&mut [u32; 9]": "struct yumbaqel_loaded *"}
+           "&mut [u32; 9]": "struct yumbaqel_loaded *", "&mut [u32; 40]": "struct yumbaqel_table *",
+           "&[u32; 40]": "const struct yumbaqel_table *"}
 SLICES = {"&[u8]": "const uint8_t *", "&[u32]": "const uint32_t *", "&mut [u32]": "uint32_t *",
           "&mut [u64]": "uint64_t *", "&mut [Reach]": "struct yumbaqel_reach *"}
 
@@ -65,7 +66,8 @@ RESULT_MARK = 104
 def recorder_source(library: dict[str, Signature]) -> str:
     """A library that prints what it is handed before it calls the real one, or answers with marks."""
     lines = ["#define _GNU_SOURCE", "#include <dlfcn.h>", "#include <stddef.h>", "#include <stdint.h>",
-             "#include <stdio.h>", "struct yumbaqel_loaded; struct yumbaqel_reach;", "int recorder_marks;"]
+             "#include <stdio.h>", "struct yumbaqel_loaded; struct yumbaqel_reach; struct yumbaqel_table;",
+             "int recorder_marks;"]
     for signature in library.values():
         parameters = c_parameters(signature)
         result = "uint32_t" if signature.result else "void"

@@ -25,6 +25,13 @@ static uint64_t wide_words[YUMBAQEL_WIDE_WORDS(YUMBAQEL_MOST_SEGMENTS)];
 static uint32_t set_words[YUMBAQEL_SET_WORDS(YUMBAQEL_MOST_SEGMENTS)];
 static uint32_t row_words[YUMBAQEL_ROW_WORDS(YUMBAQEL_MOST_ROWS)];
 static struct yumbaqel_river river;
+static uint32_t shared_words[YUMBAQEL_COPY_WORDS(YUMBAQEL_MOST_SEGMENTS)];
+static uint64_t shared_wide_words[YUMBAQEL_WIDE_WORDS(YUMBAQEL_MOST_SEGMENTS)];
+static uint32_t pool_river_words[YUMBAQEL_LOADING_WORDS(YUMBAQEL_MOST_SEGMENTS)];
+static uint32_t pool_set_words[YUMBAQEL_SET_WORDS(YUMBAQEL_MOST_SEGMENTS)];
+static struct yumbaqel_shared shared;
+static struct yumbaqel_river pool_river;
+static uint32_t number;
 static struct yumbaqel_refusal told;
 static struct yumbaqel_figures figures;
 static uint32_t u;
@@ -89,6 +96,31 @@ static void version(void)
     u = yumbaqel_version();
 }
 
+static void pool_open(void)
+{
+    told = yumbaqel_shared_open(&shared, number, &pool_river, sheet, length, reaches, YUMBAQEL_MOST_REACHES, 0);
+}
+
+static void pool_start(void)
+{
+    told = yumbaqel_shared_start(&shared, number, &pool_river, 0);
+}
+
+static void pool_step(void)
+{
+    told = yumbaqel_shared_step(&shared, number, &pool_river, 0);
+}
+
+static void pool_report(void)
+{
+    told = yumbaqel_shared_report(&shared, number, &pool_river, pool_river.loaded.segments, &figures);
+}
+
+static void pool_close(void)
+{
+    told = yumbaqel_shared_close(&shared, number);
+}
+
 static void body(void)
 {
     top = (uintptr_t)__builtin_frame_address(0);
@@ -112,6 +144,29 @@ static void measure(const char *name, void (*which)(void))
     printf("%s %lu\n", name, (unsigned long)(top - (uintptr_t)(stack + low)));
 }
 
+/* Rivers of the same sheet in a pool: as many as have room, the first one closed again, and one more, which moves the others. */
+static void measure_pool(void)
+{
+    yumbaqel_shared_lend(&shared, shared_words, shared_wide_words);
+    yumbaqel_shared_lend_river(&shared, &pool_river, YUMBAQEL_MOST_SEGMENTS, pool_river_words);
+    yumbaqel_river_lend_set(&pool_river, YUMBAQEL_MOST_SEGMENTS, pool_set_words);
+    for (number = 1; number < YUMBAQEL_MOST_RIVERS; number++)
+        measure("pool_open", pool_open);
+    number = 1;
+    if (shared.table.slots[0].opened == 0)
+        return;
+    yumbaqel_shared_follow(&shared, number, &pool_river);
+    measure("pool_start", pool_start);
+    for (u = 0; u < 2; u++) {
+        told = yumbaqel_river_sets(&pool_river, reaches, YUMBAQEL_MOST_REACHES);
+        measure("pool_step", pool_step);
+    }
+    measure("pool_report", pool_report);
+    measure("pool_close", pool_close);
+    number = YUMBAQEL_MOST_RIVERS;
+    measure("pool_open", pool_open);
+}
+
 int main(void)
 {
     length = fread(sheet, 1, sizeof sheet, stdin);
@@ -119,6 +174,7 @@ int main(void)
     yumbaqel_river_lend_set(&river, YUMBAQEL_MOST_SEGMENTS, set_words);
     yumbaqel_river_lend_rows(&river, YUMBAQEL_MOST_ROWS, row_words);
     printf("stated %d\n", YUMBAQEL_STACK);
+    measure_pool();
     measure("load", load);
     if (told.number != YUMBAQEL_ACCEPTED)
         return 0;

@@ -35,6 +35,7 @@ from library import KINDS, ROOT, STRICT, BuildFault, Library, compiled, shared_o
 from mirror import (LOADED, MACROS, NO_FLOW, OTHER_LISTS, REACH, ROW_LISTS, SETS, STATE_LISTS, Mirror, commands,
                     distinct_draft, with_flow_rows)
 from model import COLUMNS, HIGHEST, MOST_FLOW_ROWS, MOST_REACHES, MOST_ROWS, MOST_SEGMENTS, MOST_STEPS, SET, Row
+from pools import PoolCalls
 from signatures import declaration, recorder_source, signatures
 from wrong_headers import Header, Wrong, tokens
 
@@ -65,17 +66,24 @@ LIST = struct("yumbaqel_list", ("at", ctypes.POINTER(U32)), ("length", SIZE))
 WIDE_LIST = struct("yumbaqel_wide_list", ("at", ctypes.POINTER(ctypes.c_uint64)), ("length", SIZE))
 LOADED_STRUCT = struct("yumbaqel_loaded", *((name, U32) for name in LOADED))
 SET_STRUCT = struct("yumbaqel_set", *((name, LIST) for name in SET), ("flow", U32))
+SLOT_STRUCT = struct("yumbaqel_slot", *((name, U32) for name in model.Slot._fields))
+TABLE_STRUCT = struct("yumbaqel_table", ("slots", SLOT_STRUCT * model.MOST_RIVERS))
+REACH_STRUCT = struct("yumbaqel_reach", *((name, U32) for name in REACH))
+CHECKED = (REACH_STRUCT, LOADED_STRUCT, TABLE_STRUCT)       # the header checks their size
 STRUCTS = (
-    struct("yumbaqel_reach", *((name, U32) for name in REACH)), LOADED_STRUCT, LIST, WIDE_LIST, SET_STRUCT,
+    *CHECKED, SLOT_STRUCT, LIST, WIDE_LIST, SET_STRUCT,
     struct("yumbaqel_river", ("sets", SET_STRUCT * len(SETS)), *((name, LIST) for name in (*OTHER_LISTS, *STATE_LISTS)),
            ("upstream", U32), ("done", U32), ("p", WIDE_LIST), ("y", WIDE_LIST), ("loaded", LOADED_STRUCT),
            ("sheet", ctypes.POINTER(ctypes.c_uint8)), ("sheet_length", SIZE), *((name, LIST) for name in ROW_LISTS),
            ("rows", U32)),
+    struct("yumbaqel_shared", *((name, LIST) for name in STATE_LISTS), ("p", WIDE_LIST), ("y", WIDE_LIST),
+           ("table", TABLE_STRUCT)),
     struct("yumbaqel_refusal", ("number", U32), ("kind", U32), ("place", U32)),
     struct("yumbaqel_figures", ("channel", U32), ("storage", U32), ("sediment", ctypes.c_uint64)),
 )
 REFUSALS = ("ACCEPTED", "MARK", "SHORT_SHEET", "COUNT", "LONG_SHEET", "HEADER", "REACH_FIELD", "SEGMENTS",
-            "BOUNDARY_ROW", "GAUGE", "FLOW", "FACE", "SUM", "SHORT_LIST", "FIGURE", "STEPS_DONE", "FLOW_ROW")
+            "BOUNDARY_ROW", "GAUGE", "FLOW", "FACE", "SUM", "SHORT_LIST", "FIGURE", "STEPS_DONE", "FLOW_ROW",
+            "NO_ROOM", "NOT_OPEN")
 KIND_NAMES = {"NOTHING": None, "REACH": "reach", "SEGMENT": "segment", "ROW": "row"}
 TRIED = 1 + 2                       # the figure that a macro is tried on
 
@@ -85,7 +93,8 @@ def constants(library: Library, used: int) -> dict[str, int]:
     return {"VERSION": library.call("version"), "SCALE": model.ONE_WHOLE, "HIGHEST": HIGHEST,
             "MOST_SEGMENTS": MOST_SEGMENTS, "MOST_STEPS": MOST_STEPS, "MOST_REACHES": MOST_REACHES,
             "MOST_ROWS": MOST_ROWS, "MOST_GAUGES": model.MOST_GAUGES, "MOST_FLOW_ROWS": MOST_FLOW_ROWS,
-            "NO_FLOW": NO_FLOW, "LONGEST_SHEET": model.LONGEST_SHEET, "STACK": 1 << used.bit_length()}
+            "MOST_RIVERS": model.MOST_RIVERS, "NO_FLOW": NO_FLOW, "LONGEST_SHEET": model.LONGEST_SHEET,
+            "STACK": 1 << used.bit_length()}
 
 
 def wanted_names(right: dict[str, int]) -> list[str]:
@@ -94,7 +103,7 @@ def wanted_names(right: dict[str, int]) -> list[str]:
     lines += [f"number {PREFIX}{name} {number}" for number, name in enumerate(REFUSALS)]
     lines += [f"number {PREFIX}{name} {kinds[kind]}" for name, kind in KIND_NAMES.items()]
     lines += [f"macro {PREFIX}{name} {entries * TRIED}" for name, entries in MACROS.items()]
-    lines += [f"type {each.__name__}_has_{ctypes.sizeof(each)}_bytes 1" for each in STRUCTS[:2]]
+    lines += [f"type {each.__name__}_has_{ctypes.sizeof(each)}_bytes 1" for each in CHECKED]
     for each in STRUCTS:
         lines.append(f"struct {each.__name__} {ctypes.sizeof(each)}")
         lines += [f"field {each.__name__} {name} {getattr(each, name).offset} {getattr(each, name).size}"
@@ -131,6 +140,15 @@ class Situations:
     def told(self, given: sheets.Draft | bytes, room: int = MOST_SEGMENTS + 2, row: int = 0) -> Answer:
         return answer_of(self.load(given, room, row))
 
+    def pool(self) -> PoolCalls:
+        return PoolCalls(self.library, random.Random(1), Tally())
+
+    def opened(self, number: int) -> Answer:
+        """An opening under this number where none is open."""
+        pool = self.pool()
+        pool.open(number, sheets.write(self.good), 5)
+        return answer_of(pool)
+
     def refusals(self) -> dict[str, Answer]:
         """What the library answers in the situation that each name of a refusal speaks of."""
         good, sheet = self.good, sheets.write(self.good)
@@ -140,6 +158,9 @@ class Situations:
         run.start(run.n, 0, {})
         for _ in range(good.header.M + 1):
             run.step(run.n, 0, good.header.M, {})
+        pool = self.pool()
+        pool.close(1)
+        not_open = answer_of(pool)
         return {
             "ACCEPTED": self.told(good),
             "MARK": self.told(sheets.UNKNOWN_MARK + sheet[len(model.MARK):]),
@@ -158,6 +179,8 @@ class Situations:
             "FIGURE": figure,
             "STEPS_DONE": answer_of(run),
             "FLOW_ROW": self.told(good.with_flows((1, 0), (1, 0))),
+            "NO_ROOM": self.opened(0),
+            "NOT_OPEN": not_open,
         }
 
     def limit_holds(self, name: str, figure: int, used: int) -> bool:
@@ -175,6 +198,8 @@ class Situations:
         if taken is not None:
             return self.told(taken(figure))[0] == 0 and self.told(taken(figure + 1))[0] != 0
         longest = sheets.write(sheets.fullest(random.Random(1)))
+        if name == "MOST_RIVERS":
+            return self.opened(figure)[0] == 0 and self.opened(figure + 1)[0] == 17
         if name == "NO_FLOW":       # the first that no sheet has
             return self.told(longest, row=figure)[0] == 13 and self.told(longest, row=figure - 1)[0] == 0
         if name == "LONGEST_SHEET":
@@ -256,7 +281,7 @@ class Bench:
 
 def declarations_hold(header: Header, wanted: dict[str, list[str]]) -> bool:
     """Each function is declared as the library has it, names of parameters too, and no other."""
-    return wanted == {function.name: tokens(function.head) for function in header.exports}
+    return wanted == header.declared
 
 
 def first_difference(found: str, wanted: str) -> str:
@@ -286,18 +311,23 @@ def refusal_comments(header: Header) -> dict[int, str]:
 
 
 def document_refusals() -> dict[int, str]:
-    """Document 01's, and the one of document 02's first request."""
+    """Document 01's, and those of document 02's requests 1 and 3."""
     text = DOCUMENT.read_text()
     plain = text[text.index("## Refusals"):text.index("## Promises")].replace("×", "x")
     found = {int(number): words for number, words in re.findall(r"^(\d+)\. (.*)$", plain, re.M)}
-    number, words = re.search(r"^1\. .*Errors: (\d+), (.*?), after \d+;", REQUESTS.read_text(), re.M).groups()
-    return {**found, int(number): f"{words[0].upper()}{words[1:]}."}
+    for errors in re.findall(r"^[13]\. .*Errors: (.*)$", REQUESTS.read_text(), re.M):
+        for number, words in re.findall(r"(\d+), (.*?), (?:after|before) \d+[;.]", errors):
+            found[int(number)] = f"{words[0].upper()}{words[1:]}."
+    return found
 
 
 NAMED = (                           # slips that a test of the calls alone does not see, by name
     ("half as many gauges", rf"(MOST_GAUGES) {model.MOST_GAUGES}\b", rf"\1 {model.MOST_GAUGES // 2}"),
     ("two refusal numbers exchanged", r"(FLOW = )10(.*FACE = )11", r"\g<1>11\g<2>10"),
     ("the two sets of a step exchanged", r"(YUMBAQEL_SET\()old(_set\), YUMBAQEL_SET\()new", r"\1new\2old"),
+    ("the two sets of a step of the pool exchanged",
+     r"(pool_step\(&told.*?YUMBAQEL_SET\()old(_set\), YUMBAQEL_SET\()new", r"\1new\2old"),
+    ("a slot of another number", r"(slots\[number - )1(\]\.steps)", r"\g<1>2\2"),
     ("area and area2 exchanged", r"(uint32_t )area;(.*?uint32_t )area2;", r"\1area2;\2area;"),
     ("storage and sediment exchanged in a macro",
      r"(\(r\)->storage.at, \(r\)->storage.length), (\(r\)->sediment.at, \(r\)->sediment.length)", r"\2, \1"),

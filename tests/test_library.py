@@ -10,45 +10,27 @@ The exit status is 0 only when every group ran, showed every answer that it must
 """
 from __future__ import annotations
 
-import argparse
 import random
 import subprocess
 import sys
-import tempfile
-import time
-from collections import Counter
-from collections.abc import Callable, Iterator
-from dataclasses import replace
+from collections.abc import Iterator
+from dataclasses import dataclass, replace
 from itertools import chain, islice, product
 from pathlib import Path
 from typing import NamedTuple
 
-import exact
+import groups
 import model
 import sheets
 import stack
-from calls import ACCEPTED, LISTS, Answer, Caller, Change, Difference, Run, Tally
-from library import CALLS, INCLUDE, OLD, READINGS, ROOT, STRICT, BuildFault, Library, compiled, shared_object
-from model import (COLUMNS, HIGHEST, HIGHEST_KD, MOST_FLOW_ROWS, MOST_REACHES, MOST_ROWS, MOST_SEGMENTS, MOST_STEPS,
-                   ONE_WHOLE, SET, Row, flow_row_count_at, row_count_at)
+from calls import ACCEPTED, LISTS, Caller, Change, Difference, Run, Tally
+from groups import MOST_SHOWN, Group, Trial, say
+from library import CALLS, INCLUDE, OLD, READINGS, ROOT, STRICT, Library, compiled
+from model import (COLUMNS, HIGHEST, HIGHEST_KD, MOST_FLOW_ROWS, MOST_REACHES, MOST_RIVERS, MOST_ROWS, MOST_SEGMENTS,
+                   MOST_STEPS, ONE_WHOLE, SET, Row, flow_row_count_at, row_count_at)
 from sheets import HIGHEST_FIELD
 
-MOST_SHOWN = 5                      # differences described
-MOST_DIFFERENCES = 20               # after which the run is given up
-
-
-class GivenUp(Exception):
-    """Too many differences."""
-
-
-def say(line: str) -> None:
-    print(line, flush=True)
-
-
 # The groups
-
-
-Trial = Callable[[Library, random.Random, Tally], None]
 
 
 def any_lengths(rng: random.Random, sheet: bytes) -> tuple[list[int], int]:
@@ -250,15 +232,6 @@ def flow_cases(rng: random.Random) -> Iterator[sheets.Case]:
                 for length in range(0, 120, 9))
 
 
-class Group(NamedTuple):
-    """A group of trials, and the answers that it must show."""
-
-    title: str
-    make: Callable[[random.Random], Iterator[Trial]]
-    answers: dict[str, set[Answer]]
-    exact: bool = False             # figures are held to the exact river
-
-
 CASE_ANSWERS = {"rows": {ACCEPTED, (13, None)}, **dict.fromkeys(("gauge", "flow", "dt", "dx"), {ACCEPTED})}
 SHEET_ANSWERS = {ACCEPTED, *((number, None) for number in (1, 2, 3, 4, 5, 7, 13)), (6, "reach"), (8, "row"),
                  (9, "row"), (10, "segment"), (11, "segment"), (12, "segment")}
@@ -314,38 +287,6 @@ GROUPS = (
 )
 
 
-def run_group(library: Library, group: Group, seed: str, total: Tally) -> None:
-    """One group: every trial, then what the group as a whole must have shown."""
-    own = Tally()
-    begin = time.monotonic()
-    rng = random.Random(f"{seed} {group.title}")
-    for number, trial in enumerate(group.make(rng)):
-        try:
-            trial(library, random.Random(f"{seed} {group.title} {number}"), own)
-        except Difference as difference:
-            own.differences += 1
-            if total.differences + own.differences <= MOST_SHOWN:
-                say(f"  trial {number}: {difference}")
-            if own.differences >= MOST_DIFFERENCES:
-                break
-    missing = {f"{name} {answer}" for name, answers in group.answers.items()
-               for answer in answers - set(own.answers.get(name, ()))}
-    if missing or (group.exact and own.held == 0):
-        own.differences += 1
-        say(f"  the group shows too little: missing {sorted(missing)}, {own.held} figures held")
-    for name, counter in own.answers.items():
-        total.answers.setdefault(name, Counter()).update(counter)
-    total.held += own.held
-    total.per_step = max(total.per_step, own.per_step)
-    total.differences += own.differences
-    line = f"{group.title}: {own.calls} calls"
-    if group.exact:
-        line += f", {own.held} figures within {float(own.per_step):.3f} per step"
-    say(f"{line}, {own.differences} differences ({time.monotonic() - begin:.1f} s)")
-    if total.differences >= MOST_DIFFERENCES:
-        raise GivenUp(f"given up after {total.differences} differences")
-
-
 # The examples, and the stack
 
 
@@ -383,19 +324,74 @@ def refused_line(refusal: model.Refusal) -> str:
     return f"refused {refusal.number}{place}\n"
 
 
+def gate_moves(sheet: bytes, gauge: int, limit: int) -> Iterator[str]:
+    """For each step of an accepted sheet's river what a gate at that gauge does: a line, or nothing."""
+    shut, dt = False, model.read_sheet(sheet).header.dt
+    for after in model.run(sheet):
+        line = ""
+        if (model.figures_at(after.lists, after.state, after.gauges[gauge - 1])[0] > limit) != shut:
+            shut = not shut
+            line = f"{'shut' if shut else 'open'} at step {after.step}, after {after.step * dt} s\n"
+        yield line
+
+
 def gate_lines(sheet: bytes, gauge: int, limit: int) -> str:
     """What examples/gate.c prints, by the model."""
-    lines, shut, done = [], False, 0
     try:
-        dt = model.read_sheet(sheet).header.dt
-        for after in model.run(sheet):
-            done = after.step
-            if (model.figures_at(after.lists, after.state, after.gauges[gauge - 1])[0] > limit) != shut:
-                shut = not shut
-                lines.append(f"{'shut' if shut else 'open'} at step {done}, after {done * dt} s\n")
+        lines = list(gate_moves(sheet, gauge, limit))
     except model.Refusal as refusal:
         return refused_line(refusal)
-    return "".join((*lines, f"done {done}\n"))
+    return "".join((*lines, f"done {len(lines)}\n"))
+
+
+class Stream(NamedTuple):
+    """What examples/waterworks.c is given of a stream."""
+
+    sheet: bytes
+    gauge: int
+    limit: int
+
+
+@dataclass
+class Running:
+    """A stream that is open: its place among all, its segments and steps, and what its gate does at each step."""
+
+    which: int
+    segments: int
+    steps: int
+    moves: Iterator[str]
+    done: int = 0
+
+
+def waterworks_lines(streams: list[Stream]) -> str:
+    """What examples/waterworks.c prints: each river moves as it does alone, and the pool decides who waits."""
+    lines: list[str] = []
+    waiting, running = list(enumerate(streams, 1)), {}
+    while waiting or running:
+        while waiting and len(running) < MOST_RIVERS:
+            which, stream = waiting[0]
+            refusal = model.answer(stream.sheet)
+            if refusal is not None:
+                lines.append(f"stream {which} {refused_line(refusal)}")
+            else:
+                found = model.read_sheet(stream.sheet)
+                segments = model.segment_count(found.reaches)
+                if segments + sum(each.segments for each in running.values()) > MOST_SEGMENTS:
+                    break
+                if 1 <= stream.gauge <= len(found.gauges):
+                    number = min(set(range(1, MOST_RIVERS + 1)) - set(running))
+                    running[number] = Running(which, segments, found.header.M, gate_moves(*stream))
+                    lines.append(f"stream {which} opened as river {number}\n")
+                else:
+                    lines.append(f"stream {which} has no such gauge\n")
+            waiting.pop(0)
+        for number, stream in sorted(running.items()):
+            lines += [f"stream {stream.which} {line}" for line in (next(stream.moves),) if line]
+            stream.done += 1
+            if stream.done == stream.steps:
+                lines.append(f"stream {stream.which} done {stream.done}\n")
+                del running[number]
+    return "".join(lines)
 
 
 def copied(state: model.State) -> model.State:
@@ -445,9 +441,12 @@ class Example:
     def run(self, sheet: bytes, *words: object, piped: bool = False) -> str:
         """What it prints for a sheet, from a file or from a pipe."""
         self.sheet.write_bytes(sheet)
+        return self.printed("-" if piped else self.sheet, *words, given=sheet if piped else b"")
+
+    def printed(self, *words: object, given: bytes = b"") -> str:
         self.runs += 1
-        return subprocess.run([self.path, "-" if piped else str(self.sheet), *map(str, words)],
-                              input=sheet if piped else b"", capture_output=True, timeout=60).stdout.decode()
+        return subprocess.run([self.path, *map(str, words)], input=given, capture_output=True,
+                              timeout=60).stdout.decode()
 
     def hold(self, holds: bool, what: str) -> None:
         if not holds:
@@ -549,6 +548,51 @@ def run_reset(archive: str, folder: Path, total: Tally) -> None:
     reset.close(total)
 
 
+def lengthened(segments: int, M: int, U: int) -> bytes:
+    """The river with a spill, of so many segments and steps."""
+    draft = pulse().with_reach(2, segments=segments - 6).with_header(M=M)
+    return sheets.write(replace(draft, rows=[Row(0, 1_000), Row(3, U), Row(13, 1_000)]))
+
+
+def run_waterworks(archive: str, folder: Path, total: Tally) -> None:
+    """Each stream's gate moves as alone, whoever is opened, closed or refused beside it; who has no room waits."""
+    waterworks = Example("waterworks", archive, folder)
+    small, flowing, bad = (sheets.write(draft) for draft in (pulse(), melting(), pulse().with_reach(1, A=0)))
+    long = [lengthened(segments, M, 100_000 * at)
+            for at, (segments, M) in enumerate(((500, 20), (400, 13), (124, 31), (1_000, 15), (24, 60)), 1)]
+    cases = [
+        [Stream(small, 1, 100_000)],
+        [Stream(small, 1, 100_000), Stream(flowing, 2, 100_000), Stream(small, 3, 2_000)],
+        [Stream(sheet, 1 + at % 3, 20_000 * at) for at, sheet in enumerate((small, flowing, bad) * 5, 1)],
+        [Stream(sheet, 1, 50_000) for sheet in (*long, flowing)],
+        [Stream(sheet, 1, 50_000) for sheet in (bad, *reversed(long), small[:-1], small, longest())],
+        [Stream(long[3], 1, 50_000)] * 3,       # the same river again, under the same number
+        # gauges that there are not: of the first, of one beside others, of one that waits and of the last
+        [Stream(small, 0, 1), Stream(long[0], 1, 50_000), Stream(flowing, 4, 1), Stream(long[3], 4, 1),
+         Stream(long[3], 1, 50_000), Stream(small, 3, 2_000), Stream(flowing, 9, 1)],
+        [Stream(small, 4, 1)],
+    ]
+    shown = []
+    for at, streams in enumerate(cases):
+        words = []
+        for which, stream in enumerate(streams):
+            file = folder / f"stream{which}"
+            file.write_bytes(stream.sheet)
+            words += [file, stream.gauge, stream.limit]
+        shown.append(waterworks.printed(*words))
+        waterworks.compare(shown[-1], waterworks_lines(streams), f"case {at}")
+    for word in ("shut", "open at", "refused 6 reach 2", "refused 2\n", "stream 11 opened", "6 opened as river 1\n",
+                 "stream 1 done 15\nstream 2 opened as river 1\nstream 2 shut",
+                 "stream 1 has no such gauge\nstream 2 opened as river 1\n",
+                 "stream 4 has no such gauge\nstream 5 opened as river 1\n", "stream 7 has no such gauge\n"):
+        waterworks.hold(word in "".join(shown), f"no case shows {word!r}")
+    again = [[line[len("stream 1"):] for line in shown[5].splitlines() if line.startswith(f"stream {which} ")]
+             for which in (1, 2, 3)]
+    waterworks.hold(again[0] == again[1] == again[2], "a river that is opened again does not move as before")
+    waterworks.compare(waterworks.printed(folder / "stream0", 1), "", "words are missing")
+    waterworks.close(total)
+
+
 def run_stack(archive: str, folder: Path, total: Tally) -> None:
     """The stack that each call takes, on a painted stack; the header's figure is at least that."""
     found = stack.measured(archive, folder)
@@ -559,55 +603,13 @@ def run_stack(archive: str, folder: Path, total: Tally) -> None:
         f"{faults} differences")
 
 
-def arguments() -> argparse.Namespace:
-    parser = argparse.ArgumentParser(description="Tests the library for C over its boundary.")
-    parser.add_argument("archive", help="path of libyumbaqel.a")
-    parser.add_argument("--seed", type=int, default=1, help="fixes every call that is drawn")
-    parser.add_argument("--long", action="store_true", help="go on with new draws")
-    parser.add_argument("--minutes", type=float, default=10.0, help="how long a long run goes on")
-    return parser.parse_args()
-
-
-def run_all(asked: argparse.Namespace, folder: Path, total: Tally) -> None:
-    end = time.monotonic() + 60 * asked.minutes
-    library = Library(shared_object(asked.archive, folder))
-    for group in GROUPS:
-        run_group(library, group, str(asked.seed), total)
-    run_gate(asked.archive, folder, total)
-    run_ahead(asked.archive, folder, total)
-    run_reset(asked.archive, folder, total)
-    run_stack(asked.archive, folder, total)
-    number = 1
-    while asked.long and time.monotonic() < end:
-        number += 1
-        say(f"round {number}")
-        for group in GROUPS:
-            if time.monotonic() < end:
-                run_group(library, group, f"{asked.seed} round {number}", total)
-
-
-def main() -> int:
-    asked = arguments()
-    total = Tally()
-    begin = time.monotonic()
-    try:
-        with tempfile.TemporaryDirectory(prefix="yumbaqel-") as folder:
-            run_all(asked, Path(folder), total)
-    except (BuildFault, GivenUp, OSError, subprocess.TimeoutExpired) as fault:
-        say(f"FAILED: {fault}")
-        return 1
-    for name, counter in sorted(total.answers.items()):
-        shown = (f"{number}{' ' + kind if kind else ''}: {count}" for (number, kind), count
-                 in sorted(counter.items(), key=lambda pair: (pair[0][0], pair[0][1] or "")))
-        say(f"  {name}: {', '.join(shown)}")
-    say(f"seed {asked.seed}, {time.monotonic() - begin:.0f} s: {total.calls} calls, {total.held} figures "
-        f"within {float(total.per_step):.3f} per step of the exact river, {exact.ALLOWED} allowed")
-    if total.differences or total.held == 0:
-        say(f"FAILED: {total.differences} differences")
-        return 1
-    say("passed")
-    return 0
+def examples(archive: str, folder: Path, total: Tally) -> None:
+    run_gate(archive, folder, total)
+    run_ahead(archive, folder, total)
+    run_reset(archive, folder, total)
+    run_waterworks(archive, folder, total)
+    run_stack(archive, folder, total)
 
 
 if __name__ == "__main__":
-    sys.exit(main())
+    sys.exit(groups.main("Tests the library for C over its boundary.", GROUPS, examples))

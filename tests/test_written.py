@@ -14,7 +14,7 @@ from pathlib import Path
 import load_cases
 
 ROOT = Path(__file__).resolve().parent.parent
-LEAST = 8                           # files: six proofs, and what program `cases` is given and must print
+LEAST = 10                          # files: eight proofs, and what program `cases` is given and must print
 
 
 def write_proofs(folder: Path) -> None:

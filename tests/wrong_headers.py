@@ -6,12 +6,13 @@ from __future__ import annotations
 
 import re
 from collections.abc import Iterable, Iterator
-from functools import cached_property
+from functools import cached_property, lru_cache
 from itertools import combinations
 from typing import NamedTuple
 
 KEYWORDS = {"if", "for", "sizeof", "return"}
 OTHERS = {"<": "<=", ">": ">=", "==": "!=", "!=": "==", "||": "&&", "+": "-"}
+EXPORT = r"^(?!static|typedef)(?:\w+ )+(\w+)\(([^)]*)\)(;)"
 TOKEN = re.compile(r'"[^"\n]*"|\w+|->|[^\w\s]')
 
 
@@ -31,7 +32,6 @@ class Function(NamedTuple):
     """A function that the header declares or defines; the body is empty where it only declares it."""
 
     name: str
-    head: str                       # from the type of its result to the closing bracket
     parameters: list[Span]
     body: Span
 
@@ -54,6 +54,7 @@ def without_comments(text: str) -> str:
     return re.sub(r"/\*.*?\*/", lambda found: re.sub(r"[^\n]", " ", found[0]), text, flags=re.S)
 
 
+@lru_cache(1_000)
 def tokens(text: str) -> list[str]:
     return TOKEN.findall(without_comments(text))
 
@@ -118,7 +119,12 @@ class Header:
 
     @cached_property
     def exports(self) -> list[Function]:
-        return [self.function(found) for found in self.found(r"^(?!static|typedef)(?:\w+ )+(\w+)\(([^)]*)\)(;)")]
+        return [self.function(found) for found in self.found(EXPORT)]
+
+    @cached_property
+    def declared(self) -> dict[str, list[str]]:
+        """The words of each exported function's declaration."""
+        return {found[1]: tokens(self.code[found.start():found.end(2) + 1]) for found in self.found(EXPORT)}
 
     @cached_property
     def helpers(self) -> list[Function]:
@@ -130,7 +136,7 @@ class Header:
         at = begin
         for declaration in self.code[begin:end].split(";"):
             for part in parted(self.code, at, at + len(declaration)):
-                name = re.search(r"(\w+)(?:\[\d+\])?$", self.code[part.begin:part.end])
+                name = re.search(r"(\w+)(?:\[\w+\])?$", self.code[part.begin:part.end])
                 found[name[1]] = Span(part.begin + name.start(1), part.begin + name.end(1))
             at += len(declaration) + 1
         return found
@@ -139,8 +145,7 @@ class Header:
         body = Span(found.end(), found.end())
         if found[3] == "{":
             body = Span(found.start(3), closing(self.code, found.start(3)))
-        head = self.code[found.start():found.end(2) + 1]
-        return Function(found[1], head, parted(self.code, *found.span(2)), body)
+        return Function(found[1], parted(self.code, *found.span(2)), body)
 
     def names(self) -> set[str]:
         """Every name that a caller can write."""

@@ -1,20 +1,25 @@
 #!/usr/bin/env python3
 """Writes the proofs of the functions that are lent a slice of reach structs: records::put, take and fill, loading::load and
-load_lists, and yumbaqel_load.
+load_lists, opening::open, and yumbaqel_load and yumbaqel_pool_open.
 
 The toolchain proves no such function by itself. Each proof is a trace of the function's MIR, statement by statement, and names what the
 function owns by its position in a context. A Trace below keeps the context by names and works out the positions. From the root:
 
     python3 tools/hand_proofs.py && rt fmt
 
-writes crates/records/proofs/*/Proof.antt, crates/loading/proofs/*/Proof.antt and crates/yumbaqel/proofs/yumbaqel_load/Proof.antt as they
-stand in the repository; tests/test_written.py sees that they do.
+writes proofs/*/Proof.antt of crates/records, crates/loading and crates/opening, and of crates/yumbaqel those of yumbaqel_load and
+yumbaqel_pool_open, as they stand in the repository; tests/test_written.py sees that they do.
+
+A loading and an opening are one function over a core on plain lists, and are handed out in the same way: load() and exported() write the
+proofs of both. A Call says what is each one's own: its parameters, its core, and what its contract says.
 """
 
 import re
+from dataclasses import dataclass
 from pathlib import Path
 
 LISTS = "e g l a b k ks h m s cl cb kd start".split()
+SHARED = "channel storage sediment".split()
 FIELDS = "segments dispersion area area2 alpha qin qout cl lambda lambda2 lamhat lamhat2 rho kd cb start".split()
 
 # what a proof can name, by module; a proof's `use` lines are those of the names that stand in it
@@ -72,7 +77,7 @@ denote.Triple.Clauses: ensured lasts
 denote.Triple.Entry: onEntry
 denote.Triple.Spec: Meets tripleOf
 denote.Triple.Table: entered cited
-denote.Triple.Walked: says Stays stay-slice stay-none-slice stay-none gave-slice gave-ref walkOf goes-slice goes-none-slice goes-none goes-gave-slice goes-gave-ref Walks ends-at walked walk-meets
+denote.Triple.Walked: says Stays stay-slice stay-none-slice stay-none stay-dropped gave-slice gave-ref walkOf goes-slice goes-none-slice goes-none goes-dropped goes-gave-slice goes-gave-ref Walks ends-at walked walk-meets
 denote.Exit: yes
 """
 
@@ -101,17 +106,21 @@ def items(xs):
     return " ∷ ".join([*map(str, xs), "[]"])
 
 
+def listed(xs):
+    """As a sentence has them behind an `of`."""
+    return ", of ".join(xs[:-1]) + " and of " + xs[-1]
+
+
 def tuple_of(xs, end="tt"):
     for x in reversed(xs):
         end = f"({x}, {end})"
     return end
 
 
-def product(xs):
-    out = "Unit {0}"
+def product(xs, end="Unit {0}"):
     for x in reversed(xs):
-        out = f"({x} × {out})"
-    return out[1:-1]
+        end = f"({x} × {end})"
+    return end[1:-1]
 
 
 class Trace:
@@ -191,6 +200,10 @@ class Trace:
         """`&mut *source` of a slice, as a call takes it."""
         self.assign(ref, f"(addr ! (from ! (fld ! refl (hop ! (look-in ! {self.at(source)} (sub ! 0 refl (whole !))) (stop !)))))", "(tt, tt)")
         self.assign(lent, f"(agg ! {self.operands([self.whole(ref), self.field(source, 1)])})", slice_fits(f"{room} .0"))
+
+    def reborrow_ref(self, source, ref):
+        """The same of a reference to a value."""
+        self.assign(ref, f"(addr ! (from ! (hop ! (look ! {self.at(source)} refl) (stop !))))", "(tt, tt)")
 
     def leave(self, values):
         """The function returns, and its locals are freed; they hold these values, None for nothing."""
@@ -831,7 +844,7 @@ module _ {MODEL} (W : Given 𝓤 H A) {RUN}
 
 
 
-# the fourteen lists: what stands at j of a tuple, and machine values
+# what stands at j of a tuple, and machine values
 def part(name, j):
     return f"({name}{' .1' * j} .0)"
 
@@ -844,61 +857,310 @@ def pointer(x):
     return f"vptr ({x} .ptr .0) ({x} .ptr .1)"
 
 
+# a number that is handed on as it stands: its machine value, what is owned of it, and a step that owns it
+def number_value(x):
+    return f"vint w32 {x}"
+
+
+def number_own(x):
+    return f"u32 .own {x} ({number_value(x)} ∷ [])"
+
+
+def number_owned(x):
+    return f"owned ! u32 (Is u32) (uint-makes 𝓤 H A W w32) {x} _ (refl, {x}-fits)"
+
+
 SHEET = slice_value("y")
-# the flow row's number, which is handed on as it stands
-FLOW = "vint w32 flow"
-FLOW_OWN = f"u32 .own flow ({FLOW} ∷ [])"
-FLOW_OWNED = "owned ! u32 (Is u32) (uint-makes 𝓤 H A W w32) flow _ (refl, flow-fits)"
-LENT = "use Rattle.loading.proofs.Lent.{Refs, Lists, rows, Values, values, Rooms, last, Same, before, after, heard-last, one-fact, and-fact, says-all}\n"
+# the flow row's number
+FLOW = number_value("flow")
+FLOW_OWN = number_own("flow")
+FLOW_OWNED = number_owned("flow")
 ANSWER_TYPED = "(EL.lawful S.the-type S′.the-laws 𝓤 H A W tt .typed r _ is .0)"
-IMPORTS_LOAD = """use Rattle.model.specs.Sheet.{reachCount}
-use Rattle.model.specs.Load.{loadAnswer, loadColumns, loadRecords}
-use Rattle.terms.specs.Says.{reachSays}
-use Rattle.assembly.specs.Says.{loadSays}
-use Rattle.assembly.specs.declared.Load.{Load}
+
+
+def loading_imports(crate):
+    """What loading/proofs/Lent says of lists that are passed on, with nothing behind them."""
+    at = "Rattle.loading.proofs" if crate == "loading" else "Rattle.loading.proofs"
+    return f"use {at}.Lent.{{Refs, Lists, rows, Values, values, Rooms, last, Same, before, after, heard-last, one-fact, and-fact, says-all}}\n"
+
+
+def opening_imports(crate):
+    """The same with the pool's table and U behind them."""
+    at = "Rattle.opening.proofs" if crate == "opening" else "Rattle.opening.proofs"
+    return f"""use Rattle.loading.proofs.Lent.{{RefsTo, ListsTo, rowsTo, ValuesTo, valuesTo, RoomsTo, lastTo, SameTo, heard-lastTo, one-fact, and-fact, says-all}}
+use {at}.Lent.{{behind, before, after, pool-before, pool-after, figure}}
+"""
+
+
+def call_imports(model):
+    """What the contract of a call that loads is said in; of `model`'s definitions these."""
+    return f"""use Rattle.model.specs.Sheet.{{reachCount}}
+use Rattle.model.specs.{model}
+use Rattle.terms.specs.Says.{{reachSays}}
+use Rattle.assembly.specs.Says.{{loadSays}}
+use Rattle.assembly.specs.declared.Load.{{Load}}
 use Rattle.assembly.proofs.Load as S
 use Rattle.assembly.proofs.Load.Laws as S′
 """
 
 
-def load():
-    n, count = len(LISTS), 51
-    answer, length, unit, ref, lent = "_18", "_19", "_48", "_49", "_50"
-    core_tokens = "(‵ (flft (κs .0) (qs .0)) ⊛ raw (toks 𝓤 A 14 (κs .1 .1) (qs .1 .1)))"
+IMPORTS_LOAD = call_imports("Load.{loadAnswer, loadColumns, loadRecords}")
+
+
+@dataclass
+class Call:
+    """A call that loads a sheet into lists, as crate `crate` has it and crate `yumbaqel` hands it out.
+
+    Its parameters are the numbers `front`, the sheet, the flow row's number, the list of reach records and `lists` lists; behind them stand,
+    where `array` is not 0, a reference to an array of so many numbers and one number more. Its proofs name them by their own names, y, flow,
+    x and z: z is all that comes behind the reach records, which is passed on as it stands.
+    """
+
+    verb: str  # the function's name, with which the names of `model`'s definitions begin
+    crate: str
+    document: str  # the one that says its list of reach records
+    core: str  # the function on plain lists that it calls, as the code names it
+    core_at: tuple  # that one's crate, and its path there
+    head: str  # what is said at the top of its proof
+    exported: str  # the function of crate `yumbaqel`
+    exported_head: str
+    imports: str  # the `use` lines for what the contract is said in
+    lent: object  # those for z, as a function of the crate that they stand in
+    lists: int
+    front: tuple = ()
+    array: int = 0
+    given: str = ""  # what `model`'s definitions take behind the columns
+    subjects: tuple = ("its answer", "the lists")  # what its contract speaks of, beside the reach records
+    facts: tuple = ()  # what is said of z's last values ws beside the columns: a name, a name for its proof, the left side and a definition of `model`
+
+    def __post_init__(self):
+        self.later = (("Written", "writes", "after ws", f"{self.verb}Columns"), *self.facts)
+        # z's lifetimes, and all of them: the sheet's and that of the reach records come first
+        self.z_lifetimes = self.lists + (self.array > 0)
+        self.lifetimes = 2 + self.z_lifetimes
+        # the parameters in front of the reach records, and how many there are in all
+        self.leading = [*self.front, "y", "flow"]
+        self.parameters = len(self.leading) + 1 + self.lists + (2 if self.array else 0)
+        # how many locals reborrow_behind assigns
+        self.references = 2 * self.lists + (self.array > 0)
+
+    def z(self, name):
+        """A definition of loading/proofs/Lent for z."""
+        return f"{name}To behind {self.lists}" if self.array else f"{name} {self.lists}"
+
+    def z_tokens(self):
+        return f"toks 𝓤 A {self.z_lifetimes} (κs .1 .1) (qs .1 .1)"
+
+    def z_owns(self):
+        return f"owns ({self.z('rows')} (κs .1 .1)) z ({self.z('values')} z)"
+
+    def hear_lists(self, w, ws):
+        """What a callee says of z's last values ws is at the head of the context."""
+        last, same = f"{self.z('last')} z {ws}", f"{self.z('Same')} z {ws}"
+        heard = f"heard-lastTo behind 𝓤 H A W {self.lists}" if self.array else f"heard-last 𝓤 H A W {self.lists}"
+        w.replace(1, "lists", "same")
+        text = f"use1 W (‵ ({last}) ⊛ raw (fact 𝓤 ({same}))) ({heard} z {ws}) $ split ! $ " + w.move("same") + f"heard ! ({same}) (λ same."
+        w.replace(1)
+        return text
+
+    # z among the locals: its parameters from `at` on, and from `ref` on the references that it is passed on by
+    def behind_fits(self):
+        """That the parameters fit their types."""
+        fit = [slice_fits(f"{part('z-room', j)} .0") for j in range(self.lists)]
+        return fit + (["(tt, tt)", fits("z-room" + " .1" * self.lists)] if self.array else [])
+
+    def behind_values(self):
+        values = [slice_value(part("z", j)) for j in range(self.lists)]
+        return values + ([pointer(part("z", self.lists)), number_value(part("z", self.lists + 1))] if self.array else [])
+
+    def reborrow_behind(self, w, at, ref):
+        """The statements that reborrow z."""
+        for j in range(self.lists):
+            w.reborrow(f"_{at + j}", f"_{ref + 2 * j}", f"_{ref + 1 + 2 * j}", part("z-room", j))
+        if self.array:
+            w.reborrow_ref(f"_{at + self.lists}", f"_{ref + 2 * self.lists}")
+
+    def lent_behind(self, at, ref):
+        """The operands that a call takes for z."""
+        lent = [f"_{ref + 1 + 2 * j}" for j in range(self.lists)]
+        return lent + ([f"_{ref + 2 * self.lists}", f"_{at + self.lists + 1}"] if self.array else [])
+
+    def lent_values(self):
+        """What those references hold."""
+        values = [v for j in range(self.lists) for v in (pointer(part("z", j)), slice_value(part("z", j)))]
+        return values + ([pointer(part("z", self.lists))] if self.array else [])
+
+    # the arguments with their machine values; `table` stands where the reach records do
+    def arguments(self, table):
+        return tuple_of([*self.leading, table], "z")
+
+    def argument_types(self, table):
+        return product([*["ℕ" for _ in self.front], "RefT (List ℕ)", "ℕ", table], self.z("Refs"))
+
+    def machine(self, table):
+        return tuple_of([f"{v} ∷ []" for v in [*self.front_values(), table]], f"{self.z('values')} z")
+
+    def machine_types(self):
+        return product(["List Val"] * (len(self.leading) + 1), self.z("Values"))
+
+    def front_values(self):
+        return [*map(number_value, self.front), SHEET, FLOW]
+
+    def front_fits(self):
+        return [*[fits(f"{x}-fits") for x in self.front], slice_fits("y-room .0"), fits("flow-fits")]
+
+    def front_owned(self):
+        """Steps that join what is owned of the numbers in front to what is at the head."""
+        return "".join(f"{number_owned(x)} $ fjoin ! $ " for x in reversed(self.front))
+
+    def owned_in_front(self, rest):
+        """What is owned of the parameters in front of `rest`."""
+        text = f"fsep Sheet (fsep ({FLOW_OWN}) {rest})"
+        for x in reversed(self.front):
+            text = f"fsep ({number_own(x)}) ({text})"
+        return text
+
+    def bound(self):
+        """The parameters, as the module of a proof takes them."""
+        return (
+            "".join(f"({x} : ℕ) " for x in self.front) + f"(y : RefT (List ℕ)) (flow : ℕ) (x : RefT (List Reach)) (z : {self.z('Refs')}) "
+            + "".join(f"({x}-fits : {x} < 2 ^ 32) " for x in self.front)
+            + f"(y-room : Room u8 (length (y .now))) (flow-fits : flow < 2 ^ 32) (x-room : Room T.the-row (length (x .now))) (z-room : {self.z('Rooms')} z)"
+        )
+
+    def passed(self, i):
+        """The same of the parameters from i on, as `walked` hands them over."""
+        f, at = len(self.front), lambda k: " .1" * (i + k)
+        names = [part("a", i + k) for k in range(f + 3)] + [f"(a{at(f + 3)})"]
+        front = [f"(are{at(k)} .0 .1)" for k in range(f)] + [f"(are{at(f)} .0 .0 .1)", f"(are{at(f + 1)} .0 .1)", f"(are{at(f + 2)} .0 .0 .1)"]
+        rooms = [f"are{at(f + 3 + j)} .0 .0 .1" for j in range(self.lists)]
+        return " ".join(names + front) + " " + tuple_of(rooms, f"are{at(f + 4 + self.lists)} .0 .1" if self.array else "tt")
+
+    # the laws of each parameter: of what is had at exit, of n lifetimes from i on, and of machine values
+    def stays(self, i):
+        out = ["stay-none (λ _. u32) yes" for _ in self.front]
+        out += [f"stay-none-slice ({i} ∷ []) tt (plain (λ _. u8)) yes", "stay-none (λ _. u32) yes", f"gave-slice ({i + 1} ∷ []) tt (plain (λ _. T.the-row))"]
+        out += [f"gave-slice ({i + 2 + j} ∷ []) tt (plain (λ _. u32))" for j in range(self.lists)]
+        if self.array:
+            out += [f"gave-ref ({i + 2 + self.lists} ∷ []) tt (arrayOf (plain (λ _. u32)) {self.array})", "stay-dropped (plain (λ _. u32)) yes"]
+        return out
+
+    def goes(self, n, i):
+        number = f"goes-none 𝓤 H A W {n} (λ _. u32) yes (λ κs x f. refl)"
+        out = [number for _ in self.front]
+        out += [f"goes-none-slice 𝓤 H A W {n} ({i} ∷ []) tt (plain (λ _. u8)) yes", number, f"goes-gave-slice 𝓤 H A W {n} {i + 1} tt (plain (λ _. T.the-row))"]
+        out += [f"goes-gave-slice 𝓤 H A W {n} {i + 2 + j} tt (plain (λ _. u32))" for j in range(self.lists)]
+        if self.array:
+            out += [f"goes-gave-ref 𝓤 H A W {n} {i + 2 + self.lists} tt (arrayOf (plain (λ _. u32)) {self.array})"]
+            out += [f"goes-dropped 𝓤 H A W {n} (plain (λ _. u32)) yes (λ κs x f. refl)"]
+        return out
+
+    def spells(self):
+        return ["uint-vals w32" for _ in self.front] + ["slice-vals", "uint-vals w32"] + ["slice-vals"] * (1 + self.lists) + (["ptr-vals", "uint-vals w32"] if self.array else [])
+
+    def tells(self, i):
+        at = lambda k: f"(named {i + k}) {part('κs', i + k)}"
+        out = ["uint-tells w32" for _ in self.front] + [f"shr-slice-tells {at(0)} u8", "uint-tells w32", f"mut-slice-tells {at(1)} T.the-row"]
+        out += [f"mut-slice-tells {at(j + 2)} u32" for j in range(self.lists)]
+        return out + ([f"mut-tells {at(self.lists + 2)} (Array u32 {self.array})", "uint-tells w32"] if self.array else [])
+
+    # what its contract says
+    def says(self, name, records="(length (x .now))"):
+        return f"{name} (y .now) flow {records} (before z){self.given}"
+
+    def records(self):
+        return self.says(f"{self.verb}Records", "(map reachSays (x .now))")
+
+    def definitions(self):
+        """What is said of the answer and of z's last values."""
+        text = f"""  abbrev Answer : Load → Type 0
+  Answer r = loadSays r ≡ {self.says(self.verb + 'Answer')}
+
+"""
+        return text + "".join(f"""  abbrev {name} : {self.z('Lists')} → Type 0
+  {name} ws = {left} ≡ {self.says(right)}
+
+""" for name, _, left, right in self.later)
+
+    def answers(self, ws):
+        """The same of an answer r and of last values, with a name for the proof of each."""
+        return [("Answer r", "answers")] + [(f"{name} {ws}", proof) for name, proof, _, _ in self.later]
+
+    def named(self):
+        """The proofs of what is said of z's last values."""
+        return [proof for _, proof, _, _ in self.later]
+
+
+def said_facts(facts):
+    """The facts of an `ensures` with several clauses, as one item."""
+    *front, out = [f"raw (fact 𝓤 ({fact}))" for fact, _ in facts]
+    for fact in reversed(front):
+        out = f"({fact} ⊛ {out})"
+    return out
+
+
+def hear(w, facts):
+    """The facts of said_facts, which are at the head, are heard one after the other."""
+    text = ""
+    for i, (fact, proof) in enumerate(facts):
+        if i + 1 < len(facts):
+            text += w.split("says", proof, "says")
+        text += f"heard ! ({fact}) (λ {proof}. "
+        w.replace(1)
+    return text
+
+
+def fact_terms(terms):
+    """The proof of an `ensures` with several clauses."""
+    out = f"(one-fact 𝓤 {terms[-1]})"
+    for term in reversed(terms[:-1]):
+        out = f"(and-fact 𝓤 {term} {out})"
+    return out
+
+
+def load(call):
+    """The call itself: its core, and the reach records filled by its answer."""
+    # the locals: the answer, the parameters, the answer of the core, a number, what z is passed on by, and what the reach records are
+    f = len(call.front)
+    sheet, flow, table = (f"_{f + i}" for i in (1, 2, 3))
+    at, ref = f + 4, call.parameters + 3
+    answer, length = f"_{ref - 2}", f"_{ref - 1}"
+    unit, whole, lent = (f"_{ref + call.references + i}" for i in range(3))
+    count = ref + call.references + 3
+    ws = "(ws" + " .1" * (f + 3) + ")"
+    core_tokens = f"(‵ (flft (κs .0) (qs .0)) ⊛ raw ({call.z_tokens()}))"
+    tokens = f"(‵ (flft (κs .0) (qs .0)) ⊛ (‵ (flft (κs .1 .0) (qs .1 .0)) ⊛ raw ({call.z_tokens()})))"
+    behind = call.z_owns()
     w = Trace(own_locals(count) + ["tokens", "owns"])
     w.line(allocate(count))
-    typed = [slice_fits("y-room .0"), fits("flow-fits"), slice_fits("x-room .0")] + [slice_fits(f"{part('z-room', j)} .0") for j in range(n)]
+    typed = [*call.front_fits(), slice_fits("x-room .0"), *call.behind_fits()]
     w.line("".join(f"pass1 ! (init ! {w.at(f'_{i + 1}')} refl {fit}) $ " for i, fit in enumerate(typed)) + "pass0 ! $")
-    w.assign(length, f"(of-opd ! {w.field('_3', 1)})", fits("x-room .0"))
-    for j in range(n):
-        w.reborrow(f"_{4 + j}", f"_{20 + 2 * j}", f"_{21 + 2 * j}", part("z-room", j))
-    w.note("`Loaded::assemble`")
+    w.assign(length, f"(of-opd ! {w.field(table, 1)})", fits("x-room .0"))
+    call.reborrow_behind(w, at, ref)
+    w.note(f"`{call.core}`")
     w.line(
         w.split("tokens", "sheet-alive", "others") + w.split("others", "table-alive", "lists-alive") + w.join("sheet-alive", "lists-alive", "alive")
+        + "".join(w.split("owns", x, "owns", rule="fsplit") + w.drop(x) for x in call.front)
         + w.split("owns", "sheet", "others", rule="fsplit") + w.split("others", "flow", "others", rule="fsplit") + w.drop("flow")
         + w.split("others", "table", "lists", rule="fsplit") + w.move("alive", "sheet", "lists")
     )
     w.line("use3 W (raw (Core 𝓤 H A at-mem run .pre to-core) ⊛ ‵ Sheet) goes-core $ split ! $")
     w.replace(3, "pre", "sheet")
-    w.line(f"calls-at ! fm (Core 𝓤 H A at-mem run) known-core to-core {w.locals('_1', '_2', length, *[f'_{21 + 2 * j}' for j in range(n)])} (λ u.")
+    numbers = [f"_{i + 1}" for i in range(f)]
+    w.line(f"calls-at ! fm (Core 𝓤 H A at-mem run) known-core to-core {w.locals(*numbers, sheet, flow, length, *call.lent_behind(at, ref))} (λ u.")
     w.line(f"use1 W (later (some (λ (r : Load). ({core_tokens} ⊛ ‵ (S.the-row .own r (u ∷ []))) ⊛ raw (ensured 𝓤 H A core.ended (core.clauses 𝓤 H A at-mem run) core-κs core-args tt r)))) (id⊢ 𝓤 _) $ await ! tt $ pick ! (λ r.")
     w.replace(1, "result", "says")
-    text = "split ! $ " + w.move("says") + "use1 W (some (λ (ws : Unit {0} × (Unit {0} × (Unit {0} × Lists 14))). ‵ (lasts core.ended core-κs core-args ws) ⊛ (raw (fact 𝓤 (Answer r)) ⊛ raw (fact 𝓤 (Written (ws .1 .1 .1)))))) (id⊢ 𝓤 _) $ pick ! (λ ws. split ! $ "
+    facts = call.answers(ws)
+    text = "split ! $ " + w.move("says") + f"use1 W (some (λ (ws : {product(['Unit {0}'] * (f + 3), call.z('Lists'))}). ‵ (lasts core.ended core-κs core-args ws) ⊛ {said_facts(facts)})) (id⊢ 𝓤 _) $ pick ! (λ ws. split ! $ "
     w.replace(1, "lasts", "says")
-    text += w.split("says", "answers", "writes") + "heard ! (Answer r) (λ answers. "
-    w.replace(1)
-    w.line(text + "heard ! (Written (ws .1 .1 .1)) (λ writes.")
-    w.replace(1)
-    text = "fsplit ! $ drop ! $ " * 3 + "use1 W (‵ (last 14 z (ws .1 .1 .1)) ⊛ raw (fact 𝓤 (Same 14 z (ws .1 .1 .1)))) (heard-last 𝓤 H A W 14 z (ws .1 .1 .1)) $ split ! $ "
-    w.replace(1, "lists", "same")
-    w.line(text + w.move("same") + "heard ! (Same 14 z (ws .1 .1 .1)) (λ same.")
-    w.replace(1)
+    w.line(text + hear(w, facts))
+    w.line("fsplit ! $ drop ! $ " * (f + 3) + call.hear_lists(w, ws))
     w.line(w.split("result", "alive", "answer") + w.move("answer") + f"peeks ! S.the-row (Is S.the-row) (shows 𝓤 H A S.the-row) r (u ∷ []) (λ is. land ! (from ! (stop !)) (init ! {w.at(answer)} refl {ANSWER_TYPED}) $")
-    w.reborrow("_3", ref, lent, "x-room")
+    w.reborrow(table, whole, lent, "x-room")
     w.note("`fill_count`")
     w.line(w.split("alive", "sheet-alive", "lists-alive") + w.move("sheet-alive", "answer", "sheet") + "use3 W (raw (Count 𝓤 H A at-mem run .pre (to-count r u)) ⊛ ‵ Sheet) (goes-count r u) $ split ! $")
     w.replace(3, "pre", "sheet")
-    w.line(f"calls-at ! fm (Count 𝓤 H A at-mem run) known-count (to-count r u) {w.locals(answer, '_1')} (λ v.")
+    w.line(f"calls-at ! fm (Count 𝓤 H A at-mem run) known-count (to-count r u) {w.locals(answer, sheet)} (λ v.")
     w.line("use1 W (later (some (λ (n : ℕ). ((‵ (flft (κs .0) (qs .0)) ⊛ ‵ ftrue) ⊛ ‵ (usize .own n (v ∷ []))) ⊛ raw (ensured 𝓤 H A count.ended (count.clauses 𝓤 H A at-mem run) (κs .0, tt) (r, (y, tt)) tt n)))) (id⊢ 𝓤 _) $ await ! tt $ pick ! (λ n.")
     w.replace(1, "result", "says")
     text = "split ! $ " + w.move("says") + "use1 W (raw (fact 𝓤 (n ≡ fillCount (loadSays r) (reachCount (y .now))))) (said-count r n) $ heard ! (n ≡ fillCount (loadSays r) (reachCount (y .now))) (λ counts. "
@@ -909,7 +1171,7 @@ def load():
     w.note("`fill`")
     w.line(w.join("table-alive", "sheet-alive", "alive") + w.move("alive", "table", "sheet") + "use3 W (raw (Fill 𝓤 H A at-mem run .pre (to-fill n v)) ⊛ ‵ Sheet) (goes-fill n v fits) $ split ! $")
     w.replace(3, "pre", "sheet")
-    w.line(f"calls-at ! fm (Fill 𝓤 H A at-mem run) known-fill (to-fill n v) {w.locals(lent, '_1', length)} (λ w.")
+    w.line(f"calls-at ! fm (Fill 𝓤 H A at-mem run) known-fill (to-fill n v) {w.locals(lent, sheet, length)} (λ w.")
     w.line("use1 W (later (some (λ (t : Unit {0}). ((‵ (flft (κs .1 .0) (qs .1 .0)) ⊛ (‵ (flft (κs .0) (qs .0)) ⊛ ‵ ftrue)) ⊛ ‵ (Nothing .own t (w ∷ []))) ⊛ raw (ensured 𝓤 H A fill.ended (fill.clauses 𝓤 H A at-mem run) fill-κs (fill-args n) tt t)))) (id⊢ 𝓤 _) $ await ! tt $ pick ! (λ t.")
     w.replace(1, "result", "says")
     text = "split ! $ " + w.move("says") + "use1 W (some (λ (ts : List Reach × (Unit {0} × (Unit {0} × Unit {0}))). ‵ (lasts fill.ended fill-κs (fill-args n) ts) ⊛ raw (fact 𝓤 (Filled n (ts .0))))) (id⊢ 𝓤 _) $ pick ! (λ ts. split ! $ "
@@ -926,31 +1188,29 @@ def load():
     w.line(f"peeks ! Nothing (Is Nothing) (shows 𝓤 H A Nothing) t (w ∷ []) (λ is-unit. land ! (from ! (stop !)) (init ! {w.at(unit)} refl (unit-typed w is-unit)) $ drop ! $")
     w.replace(1)
     w.assign("_0", f"(of-opd ! {w.whole(answer)})", ANSWER_TYPED)
-    lists = [slice_value(part("z", j)) for j in range(n)]
-    w.leave(
-        ["u", SHEET, FLOW, slice_value("x"), *lists, "u", "v"] + [v for j in range(n) for v in (pointer(part("z", j)), lists[j])] + ["w", pointer("x"), slice_value("x")]
-    )
-    w.line(w.keep("tokens", "sheet", "table", "lists") + "by ! (exits r u (ws .1 .1 .1) (ts .0) n answers writes counts fills same long is)")
+    passed = [*call.front_values(), slice_value("x"), *call.behind_values()]
+    w.leave(["u", *passed, "u", "v"] + call.lent_values() + ["w", pointer("x"), slice_value("x")])
+    proofs = " ".join(call.named())
+    w.line(w.keep("tokens", "sheet", "table", "lists") + f"by ! (exits r u {ws} (ts .0) n answers {proofs} counts fills same long is)")
 
-    flat = items([SHEET, FLOW, slice_value("x"), *lists])
-    kept = "(‵ (flft (κs .0) (qs .0)) ⊛ (‵ (flft (κs .1 .0) (qs .1 .0)) ⊛ raw (toks 𝓤 A 14 (κs .1 .1) (qs .1 .1)))) ∷ ‵ Sheet ∷ ‵ (finally T.the-row (x .name) zs) ∷ ‵ (last 14 z ws) ∷ []"
+    flat = items(passed)
+    kept = f"{tokens} ∷ ‵ Sheet ∷ ‵ (finally T.the-row (x .name) zs) ∷ ‵ ({call.z('last')} z ws) ∷ []"
     contracts = "".join(f"""  abbrev {name} : Contract 𝓤
-  {name} = tripleOf 𝓤 H A {f}.signature ({f}.spec 𝓤 H A at-mem run)
+  {name} = tripleOf 𝓤 H A {fn}.signature ({fn}.spec 𝓤 H A at-mem run)
 
-""" for name, f in [("Core", "core"), ("Count", "count"), ("Fill", "fill")])
-    stays = ["stay-none-slice (0 ∷ []) tt (plain (λ _. u8)) yes", "stay-none (λ _. u32) yes", "gave-slice (1 ∷ []) tt (plain (λ _. T.the-row))"] + [f"gave-slice ({j + 2} ∷ []) tt (plain (λ _. u32))" for j in range(n)]
+""" for name, fn in [("Core", "core"), ("Count", "count"), ("Fill", "fill")])
     body = f"""abbrev stayed : Stays (the-fn.ended .signature .params) (the-fn.ended .kept)
-stayed = {tuple_of(stays)}
+stayed = {tuple_of(call.stays(0))}
 
 {UNIT_TYPED}
 module _ {MODEL} {RUN} where
 {contracts}module _ {MODEL} (W : Given 𝓤 H A) {RUN}
-    (κs : Lfts 16) (qs : Shares 16) (y : RefT (List ℕ)) (flow : ℕ) (x : RefT (List Reach)) (z : Refs 14) (y-room : Room u8 (length (y .now))) (flow-fits : flow < 2 ^ 32) (x-room : Room T.the-row (length (x .now))) (z-room : Rooms 14 z) where
-  abbrev a : RefT (List ℕ) × (ℕ × (RefT (List Reach) × Refs 14))
-  a = (y, (flow, (x, z)))
+    (κs : Lfts {call.lifetimes}) (qs : Shares {call.lifetimes}) {call.bound()} where
+  abbrev a : {call.argument_types("RefT (List Reach)")}
+  a = {call.arguments("x")}
 
-  abbrev at : List Val × (List Val × (List Val × Values 14))
-  at = ({SHEET} ∷ [], ({FLOW} ∷ [], (sliceVal (x .ptr) (length (x .now)) ∷ [], values 14 z)))
+  abbrev at : {call.machine_types()}
+  at = {call.machine(slice_value("x"))}
 
   abbrev Post : Val → SProp 𝓤
   Post = walkOf 𝓤 H A the-fn.ended stayed (the-fn.clauses 𝓤 H A at-mem run) .post ((κs, qs, tt, a, at), tt)
@@ -961,31 +1221,25 @@ module _ {MODEL} {RUN} where
   abbrev Table : Fml
   Table = MutSlice (named 0) (κs .1 .0) T.the-row .own x (sliceVal (x .ptr) (length (x .now)) ∷ [])
 
-  -- `Loaded::assemble`: what its triple binds outside, what it takes, and what it says of its answer and of the lists
-  abbrev core-κs : Lfts 15
+  -- `{call.core}`: what its triple binds outside, what it takes, and what it says of {listed(call.subjects)}
+  abbrev core-κs : Lfts {call.lifetimes - 1}
   core-κs = (κs .0, κs .1 .1)
 
-  abbrev core-args : RefT (List ℕ) × (ℕ × (ℕ × Refs 14))
-  core-args = (y, (flow, (length (x .now), z)))
+  abbrev core-args : {call.argument_types("ℕ")}
+  core-args = {call.arguments("length (x .now)")}
 
   abbrev to-core : Core 𝓤 H A at-mem run .Ghost
-  to-core = ((core-κs, (qs .0, qs .1 .1), tt, core-args, ({SHEET} ∷ [], ({FLOW} ∷ [], (vint w64 (length (x .now)) ∷ [], values 14 z)))), tt)
+  to-core = ((core-κs, (qs .0, qs .1 .1), tt, core-args, {call.machine("vint w64 (length (x .now))")}), tt)
 
-  goes-core : ent 𝓤 (sep 𝓤 (sep 𝓤 (A .lft (κs .0) (qs .0)) (toks 𝓤 A 14 (κs .1 .1) (qs .1 .1))) (sep 𝓤 (sem 𝓤 H A Sheet) (sem 𝓤 H A (owns (rows 14 (κs .1 .1)) z (values 14 z))))) (sep 𝓤 (Core 𝓤 H A at-mem run .pre to-core) (sem 𝓤 H A Sheet))
+  goes-core : ent 𝓤 (sep 𝓤 (sep 𝓤 (A .lft (κs .0) (qs .0)) ({call.z_tokens()})) (sep 𝓤 (sem 𝓤 H A Sheet) (sem 𝓤 H A ({behind})))) (sep 𝓤 (Core 𝓤 H A at-mem run .pre to-core) (sem 𝓤 H A Sheet))
   goes-core =
-      qed W ({core_tokens} ∷ ‵ Sheet ∷ ‵ (owns (rows 14 (κs .1 .1)) z (values 14 z)) ∷ []) ∵ move ! (1 ∷ []) $
+      qed W ({core_tokens} ∷ ‵ Sheet ∷ ‵ ({behind}) ∷ []) ∵ move ! (1 ∷ []) $
       use1 W (‵ Sheet ⊛ ‵ Sheet) (shr-slice-copy 𝓤 H A W (named 0) (κs .0) u8 .twice y ({SHEET} ∷ [])) $ split ! $
       move ! (3 ∷ []) $ owned ! usize (Is usize) (uint-makes 𝓤 H A W w64) (length (x .now)) _ (refl, x-room .0) $ fjoin ! $
-      {FLOW_OWNED} $ fjoin ! $ move ! (1 ∷ 0 ∷ []) $ fjoin ! $ move ! (2 ∷ 0 ∷ []) $
-      use2 W (raw (Core 𝓤 H A at-mem run .pre to-core)) (qed W ({core_tokens} ∷ ‵ (fsep Sheet (fsep ({FLOW_OWN}) (fsep (usize .own (length (x .now)) (vint w64 (length (x .now)) ∷ [])) (owns (rows 14 (κs .1 .1)) z (values 14 z))))) ∷ []) ∵ join ! $ frame ! $ done !) $ frame ! $ done !
+      {FLOW_OWNED} $ fjoin ! $ move ! (1 ∷ 0 ∷ []) $ fjoin ! $ {call.front_owned()}move ! (2 ∷ 0 ∷ []) $
+      use2 W (raw (Core 𝓤 H A at-mem run .pre to-core)) (qed W ({core_tokens} ∷ ‵ ({call.owned_in_front(f"(fsep (usize .own (length (x .now)) (vint w64 (length (x .now)) ∷ [])) ({behind}))")}) ∷ []) ∵ join ! $ frame ! $ done !) $ frame ! $ done !
 
-  abbrev Answer : Load → Type 0
-  Answer r = loadSays r ≡ loadAnswer (y .now) flow (length (x .now)) (before z)
-
-  abbrev Written : Lists 14 → Type 0
-  Written ws = after ws ≡ loadColumns (y .now) flow (length (x .now)) (before z)
-
-  -- `fill_count`
+{call.definitions()}  -- `fill_count`
   abbrev to-count : Load → Val → Count 𝓤 H A at-mem run .Ghost
   to-count r u = (((κs .0, tt), (qs .0, tt), tt, (r, (y, tt)), (u ∷ [], ({SHEET} ∷ [], tt))), tt)
 
@@ -1021,20 +1275,20 @@ module _ {MODEL} {RUN} where
   abbrev Filled : ℕ → List Reach → Type 0
   Filled n zs = map reachSays zs ≡ filled (y .now) n (map reachSays (x .now))
 
-  -- the list of reach records at exit is document 01's
-  records : (r : Load) (zs : List Reach) (n : ℕ) → Answer r → n ≡ fillCount (loadSays r) (reachCount (y .now)) → Filled n zs → map reachSays zs ≡ loadRecords (y .now) flow (map reachSays (x .now)) (before z)
+  -- the list of reach records at exit is {call.document}'s
+  records : (r : Load) (zs : List Reach) (n : ℕ) → Answer r → n ≡ fillCount (loadSays r) (reachCount (y .now)) → Filled n zs → map reachSays zs ≡ {call.records()}
   records r zs n answers counts fills =
       let long : length (map reachSays (x .now)) ≡ length (x .now) = length-map (x .now) reachSays in
-      fills ∙ ap (λ m. filled (y .now) m (map reachSays (x .now))) (counts ∙ ap (λ o. fillCount o (reachCount (y .now))) (answers ∙ ap (λ m. loadAnswer (y .now) flow m (before z)) (sym long)))
-      ∙ load-records (y .now) flow (map reachSays (x .now)) (before z)
+      fills ∙ ap (λ m. filled (y .now) m (map reachSays (x .now))) (counts ∙ ap (λ o. fillCount o (reachCount (y .now))) (answers ∙ ap (λ m. {call.says(call.verb + 'Answer', 'm')}) (sym long)))
+      ∙ {call.says(call.verb + '-records', '(map reachSays (x .now))')}
 
-  exits : (r : Load) (u : Val) (ws : Lists 14) (zs : List Reach) (n : ℕ) → Answer r → Written ws → n ≡ fillCount (loadSays r) (reachCount (y .now)) → Filled n zs → Same 14 z ws → length zs ≡ length (x .now) → Is S.the-row r (u ∷ []) →
+  exits : (r : Load) (u : Val) (ws : {call.z('Lists')}) (zs : List Reach) (n : ℕ) → Answer r → {''.join(f'{name} ws → ' for name, _, _, _ in call.later)}n ≡ fillCount (loadSays r) (reachCount (y .now)) → Filled n zs → {call.z('Same')} z ws → length zs ≡ length (x .now) → Is S.the-row r (u ∷ []) →
       ent 𝓤 (⋆ 𝓤 H A ({kept})) (Post u)
-  exits r u ws zs n answers writes counts fills same long is =
+  exits r u ws zs n answers {proofs} counts fills same long is =
       qed W ({kept}) ∵
-      suffices ! _ (ends-at 𝓤 H A the-fn.ended stayed (the-fn.clauses 𝓤 H A at-mem run) W ((κs, qs, tt, a, at), tt) u r (tt, (tt, (zs, ws))) (tt, (tt, (long, same)))) $
-      says-all ! (and-fact 𝓤 answers (and-fact 𝓤 writes (one-fact 𝓤 (records r zs n answers counts fills)))) $ frame ! $
-      move ! (1 ∷ 2 ∷ []) $ fjoin ! $ {FLOW_OWNED} $ fjoin ! $ move ! (1 ∷ 0 ∷ []) $ fjoin ! $ frame ! $ owned ! S.the-row (Is S.the-row) (EL.makes S.the-type S′.the-plain 𝓤 H A) r _ is $ done !
+      suffices ! _ (ends-at 𝓤 H A the-fn.ended stayed (the-fn.clauses 𝓤 H A at-mem run) W ((κs, qs, tt, a, at), tt) u r {tuple_of(['tt'] * (f + 2) + ['zs'], 'ws')} {tuple_of(['tt'] * (f + 2) + ['long'], 'same')}) $
+      says-all ! {fact_terms(['answers', *call.named(), '(records r zs n answers counts fills)'])} $ frame ! $
+      move ! (1 ∷ 2 ∷ []) $ fjoin ! $ {FLOW_OWNED} $ fjoin ! $ move ! (1 ∷ 0 ∷ []) $ fjoin ! $ {call.front_owned()}frame ! $ owned ! S.the-row (Is S.the-row) (EL.makes S.the-type S′.the-plain 𝓤 H A) r _ is $ done !
 
   module _ (𝓣 : Tables 𝓤 H) (known-core : Triple 𝓤 (𝓣 .C #core) (Core 𝓤 H A at-mem run)) (known-count : Triple 𝓤 (𝓣 .C #count) (Count 𝓤 H A at-mem run)) (known-fill : Triple 𝓤 (𝓣 .C #fill) (Fill 𝓤 H A at-mem run)) where
     abbrev fm : FmC 𝓤 H (W .laws) (𝓣 .C)
@@ -1042,24 +1296,25 @@ module _ {MODEL} {RUN} where
 
     trace : ent 𝓤 (onEntry 𝓤 H A the-fn.signature κs qs a at) (WpFn 𝓤 H (𝓣 .C) (𝓣 .Λ) code.function ({flat}) Post)
     trace =
-        qed W ((‵ (flft (κs .0) (qs .0)) ⊛ (‵ (flft (κs .1 .0) (qs .1 .0)) ⊛ raw (toks 𝓤 A 14 (κs .1 .1) (qs .1 .1)))) ∷ ‵ (fsep Sheet (fsep ({FLOW_OWN}) (fsep Table (owns (rows 14 (κs .1 .1)) z (values 14 z))))) ∷ []) ∵ enter ! (𝓣 .C) (𝓣 .Λ) code.function ({flat}) _ $
+        qed W ({tokens} ∷ ‵ ({call.owned_in_front(f"(fsep Table ({behind}))")}) ∷ []) ∵ enter ! (𝓣 .C) (𝓣 .Λ) code.function ({flat}) _ $
 {closed(w.text())}
 """
+    crate, path = call.core_at
     body += closing(
-        "load-spec",
-        ["goes-none-slice 𝓤 H A W 16 (0 ∷ []) tt (plain (λ _. u8)) yes", "goes-none 𝓤 H A W 16 (λ _. u32) yes (λ κs x f. refl)", "goes-gave-slice 𝓤 H A W 16 1 tt (plain (λ _. T.the-row))"] + [f"goes-gave-slice 𝓤 H A W 16 {j + 2} tt (plain (λ _. u32))" for j in range(n)],
-        ["slice-vals", "uint-vals w32"] + ["slice-vals"] * 15,
-        ["shr-slice-tells (named 0) (κs .0) u8", "uint-tells w32", "mut-slice-tells (named 1) (κs .1 .0) T.the-row"] + [f"mut-slice-tells (named {j + 2}) {part('κs', j + 2)} u32" for j in range(n)],
-        "κs qs (a .0) (a .1 .0) (a .1 .1 .0) (a .1 .1 .1) (are .0 .0 .1) (are .1 .0 .1) (are .1 .1 .0 .0 .1) " + tuple_of([f"are{' .1' * (j + 3)} .0 .0 .1" for j in range(n)]),
-        [("core", "Core", "calls-assembly·Loaded·assemble"), ("count", "Count", "calls-records·fill-count"), ("fill", "Fill", "calls-records·fill")],
+        f"{call.verb}-spec",
+        call.goes(call.lifetimes, 0),
+        call.spells(),
+        call.tells(0),
+        f"κs qs {call.passed(0)}",
+        [("core", "Core", f"calls-{crate}·{path}".replace(".", "·").replace("_", "-")), ("count", "Count", "calls-records·fill-count"), ("fill", "Fill", "calls-records·fill")],
     )
     write(
-        "loading",
-        "load",
-        "-- `load` meets its contract: the loading proper answers and writes the fourteen lists, `fill_count` says by its answer how many records\n-- are due, and `fill` puts them in. Every list is passed on.",
-        IMPORTS_LOAD + IMPORTS_REACH + "use Rattle.records.specs.Records.{filled, fillCount}\nuse Rattle.records.proofs.Filled.{load-records}\n"
-        + callee_imports("Rattle.assembly.proofs.Loaded.assemble", "core") + callee_imports("Rattle.records.proofs.fill_count", "count") + callee_imports("Rattle.records.proofs.fill", "fill")
-        + LENT + own_imports("loading", "load", code=False),
+        call.crate,
+        call.verb,
+        call.head,
+        call.imports + IMPORTS_REACH + f"use Rattle.records.specs.Records.{{filled, fillCount}}\nuse Rattle.records.proofs.Filled.{{{call.verb}-records}}\n"
+        + callee_imports(f"Rattle.{crate}.proofs.{path}", "core") + callee_imports("Rattle.records.proofs.fill_count", "count") + callee_imports("Rattle.records.proofs.fill", "fill")
+        + call.lent(call.crate) + own_imports(call.crate, call.verb, code=False),
         body,
     )
 
@@ -1244,12 +1499,12 @@ module _ {MODEL} (W : Given 𝓤 H A) {RUN}
         "-- `load_lists` meets its contract: its list of reach records is an array in a local, which is lent to `load` for a lifetime that is made\n-- for the call, and is the function's own again when that ends.",
         IMPORTS_LOAD + IMPORTS_REACH + "use Rattle.records.specs.Records.{noReach}\nuse Rattle.records.proofs.NoReach.{none-val, none-is}\n"
         + callee_imports("Rattle.loading.proofs.load", "loading") + "use Rattle.loading.proofs.Room.{room}\n"
-        + LENT + own_imports("loading", "load_lists", code=False),
+        + loading_imports("loading") + own_imports("loading", "load_lists", code=False),
         body,
     )
 
 
-# what the call hands out: the references come first, so that what `loading::load` takes is the rest of the parameters as it stands
+# what a call hands out: the references come first, so that what the call of the crate below takes is the rest of the parameters as it stands
 OUT = ["number", "kind", "place", "loaded"]
 
 
@@ -1258,48 +1513,51 @@ def outs(f):
     return [f(k) for k in range(len(OUT))]
 
 
-def exported_load():
-    n, count = len(LISTS), 58
-    sheet, flow, table, lists, answer, unit = "_5", "_6", "_7", [f"_{8 + j}" for j in range(n)], "_22", "_53"
+def exported(call):
+    """The function of crate `yumbaqel`: the call, and its answer handed out."""
+    f, o = len(call.front), len(OUT)
+    # the call's names in the proof
+    own, Own, own_to, own_args = call.crate, call.crate.capitalize(), f"to-{call.verb}", f"{call.verb}-args"
+    # the locals: the answer, the references, the call's parameters, its answer, what it is passed, and what `put_load` is
+    sheet, flow, table = (f"_{o + f + i}" for i in (1, 2, 3))
+    at, ref_table = o + f + 4, o + call.parameters + 2
+    answer, ref_behind = f"_{ref_table - 1}", ref_table + 2
+    unit = ref_behind + call.references
+    count = unit + 1 + o
     ref = lambda k: f"o{k}"
-    values = [slice_value(part("z", j)) for j in range(n)]
+    ws, zs = "(ws" + " .1" * (f + 3) + ")", "(ws" + " .1" * (f + 2) + " .0)"
+    all_lifetimes = o + call.lifetimes
     w = Trace(own_locals(count) + ["tokens", "owns"])
     w.line(allocate(count))
-    w.line("".join(f"pass1 ! (init ! {w.at(f'_{1 + k}')} refl (tt, tt)) $ " for k in range(4)))
-    typed = [slice_fits("y-room .0"), fits("flow-fits"), slice_fits("x-room .0")] + [slice_fits(f"{part('z-room', j)} .0") for j in range(n)]
-    w.line("".join(f"pass1 ! (init ! {w.at(f'_{5 + i}')} refl {fit}) $ " for i, fit in enumerate(typed)) + "pass0 ! $")
-    w.reborrow(table, "_23", "_24", "x-room")
-    for j in range(n):
-        w.reborrow(lists[j], f"_{25 + 2 * j}", f"_{26 + 2 * j}", part("z-room", j))
-    w.note("`loading::load`")
+    w.line("".join(f"pass1 ! (init ! {w.at(f'_{1 + k}')} refl (tt, tt)) $ " for k in range(o)))
+    typed = [*call.front_fits(), slice_fits("x-room .0"), *call.behind_fits()]
+    w.line("".join(f"pass1 ! (init ! {w.at(f'_{o + 1 + i}')} refl {fit}) $ " for i, fit in enumerate(typed)) + "pass0 ! $")
+    w.reborrow(table, f"_{ref_table}", f"_{ref_table + 1}", "x-room")
+    call.reborrow_behind(w, at, ref_behind)
+    w.note(f"`{call.crate}::{call.verb}`")
     text = ""
     for k, name in enumerate(OUT):
         text += w.split("tokens", f"{name}-alive", "tokens") + w.split("owns", name, "owns", rule="fsplit")
+    text += "".join(w.split("owns", x, "owns", rule="fsplit") + w.drop(x) for x in call.front)
     w.line(text + w.split("owns", "sheet", "owns", rule="fsplit") + w.split("owns", "flow", "owns", rule="fsplit") + w.drop("flow") + w.move("tokens", "sheet", "owns"))
-    w.line("use3 W (raw (Loading 𝓤 H A at-mem run .pre to-load) ⊛ ‵ Sheet) goes-load $ split ! $")
+    w.line(f"use3 W (raw ({Own} 𝓤 H A at-mem run .pre {own_to}) ⊛ ‵ Sheet) goes-{call.verb} $ split ! $")
     w.replace(3, "pre", "sheet")
-    w.line(f"calls-at ! fm (Loading 𝓤 H A at-mem run) known-loading to-load {w.locals(sheet, flow, '_24', *[f'_{26 + 2 * j}' for j in range(n)])} (λ u.")
-    w.line("use1 W (later (some (λ (r : Load). (raw (toks 𝓤 A 16 κs qs) ⊛ ‵ (S.the-row .own r (u ∷ []))) ⊛ raw (ensured 𝓤 H A loading.ended (loading.clauses 𝓤 H A at-mem run) κs load-args tt r)))) (id⊢ 𝓤 _) $ await ! tt $ pick ! (λ r.")
+    numbers = [f"_{o + 1 + i}" for i in range(f)]
+    w.line(f"calls-at ! fm ({Own} 𝓤 H A at-mem run) known-{own} {own_to} {w.locals(*numbers, sheet, flow, f'_{ref_table + 1}', *call.lent_behind(at, ref_behind))} (λ u.")
+    w.line(f"use1 W (later (some (λ (r : Load). (raw (toks 𝓤 A {call.lifetimes} κs qs) ⊛ ‵ (S.the-row .own r (u ∷ []))) ⊛ raw (ensured 𝓤 H A {own}.ended ({own}.clauses 𝓤 H A at-mem run) κs {own_args} tt r)))) (id⊢ 𝓤 _) $ await ! tt $ pick ! (λ r.")
     w.replace(1, "result", "says")
-    text = "split ! $ " + w.move("says") + "use1 W (some (λ (ws : Unit {0} × (Unit {0} × (List Reach × Lists 14))). ‵ (lasts loading.ended κs load-args ws) ⊛ (raw (fact 𝓤 (Answer r)) ⊛ (raw (fact 𝓤 (Written (ws .1 .1 .1))) ⊛ raw (fact 𝓤 (Filled (ws .1 .1 .0))))))) (id⊢ 𝓤 _) $ pick ! (λ ws. split ! $ "
+    facts = [*call.answers(ws), (f"Filled {zs}", "fills")]
+    text = "split ! $ " + w.move("says") + f"use1 W (some (λ (ws : {product(['Unit {0}'] * (f + 2) + ['List Reach'], call.z('Lists'))}). ‵ (lasts {own}.ended κs {own_args} ws) ⊛ {said_facts(facts)})) (id⊢ 𝓤 _) $ pick ! (λ ws. split ! $ "
     w.replace(1, "lasts", "says")
-    text += w.split("says", "answers", "says") + "heard ! (Answer r) (λ answers. "
-    w.replace(1)
-    text += w.split("says", "writes", "fills") + "heard ! (Written (ws .1 .1 .1)) (λ writes. "
-    w.replace(1)
-    w.line(text + "heard ! (Filled (ws .1 .1 .0)) (λ fills.")
-    w.replace(1)
-    text = w.move("lasts") + "fsplit ! $ drop ! $ fsplit ! $ drop ! $ fsplit ! $ fsplit ! $ "
+    w.line(text + hear(w, facts))
+    text = w.move("lasts") + "fsplit ! $ drop ! $ " * (f + 2) + "fsplit ! $ fsplit ! $ "
     w.replace(1, "table", "as-long", "lists")
     text += w.move("as-long") + "feqL ! (λ long. "
     w.replace(1)
-    text += w.move("lists") + "use1 W (‵ (last 14 z (ws .1 .1 .1)) ⊛ raw (fact 𝓤 (Same 14 z (ws .1 .1 .1)))) (heard-last 𝓤 H A W 14 z (ws .1 .1 .1)) $ split ! $ "
-    w.replace(1, "lists", "same")
-    w.line(text + w.move("same") + "heard ! (Same 14 z (ws .1 .1 .1)) (λ same.")
-    w.replace(1)
+    w.line(text + w.move("lists") + call.hear_lists(w, ws))
     w.line(w.split("result", "tokens", "answer") + w.move("answer") + f"peeks ! S.the-row (Is S.the-row) (shows 𝓤 H A S.the-row) r (u ∷ []) (λ is. land ! (from ! (stop !)) (init ! {w.at(answer)} refl {ANSWER_TYPED}) $")
-    for k in range(4):
-        w.assign(f"_{54 + k}", f"(addr ! (from ! (hop ! (look ! {w.at(f'_{1 + k}')} refl) (stop !))))", "(tt, tt)")
+    for k in range(o):
+        w.reborrow_ref(f"_{1 + k}", f"_{unit + 1 + k}")
     w.note("`put_load`")
     text = "nothing ! $ "
     w.replace(0, "others")
@@ -1312,16 +1570,13 @@ def exported_load():
     w.line(text + w.move("others", "owns"))
     w.line("use2 W (raw (Put 𝓤 H A at-mem run .pre (to-put r u))) (goes-put r u) $")
     w.replace(2, "pre")
-    w.line(f"calls-at ! fm (Put 𝓤 H A at-mem run) known-put (to-put r u) {w.locals(answer, *[f'_{54 + k}' for k in range(4)])} (λ w.")
+    w.line(f"calls-at ! fm (Put 𝓤 H A at-mem run) known-put (to-put r u) {w.locals(answer, *[f'_{unit + 1 + k}' for k in range(o)])} (λ w.")
     tokens4 = "(" + " ⊛ (".join(outs(lambda k: f"‵ (flft κ{k} q{k})")) + " ⊛ ‵ ftrue" + ")" * 4
     w.line(f"use1 W (later (some (λ (t : Unit {{0}}). ({tokens4} ⊛ ‵ (Nothing .own t (w ∷ []))) ⊛ raw (ensured 𝓤 H A put.ended (put.clauses 𝓤 H A at-mem run) put-κs (put-args r) tt t)))) (id⊢ 𝓤 _) $ await ! tt $ pick ! (λ t.")
     w.replace(1, "result", "says")
     text = "split ! $ " + w.move("says") + "use1 W (some (λ (vs : Outs). ‵ (lasts put.ended put-κs (put-args r) vs) ⊛ (raw (fact 𝓤 (Tells r (vs .1))) ⊛ raw (fact 𝓤 (Hands r (vs .1)))))) (id⊢ 𝓤 _) $ pick ! (λ vs. split ! $ "
     w.replace(1, "lasts", "says")
-    text += w.split("says", "tells", "hands") + "heard ! (Tells r (vs .1)) (λ tells. "
-    w.replace(1)
-    text += w.move("hands") + "heard ! (Hands r (vs .1)) (λ hands. "
-    w.replace(1)
+    text += hear(w, [("Tells r (vs .1)", "tells"), ("Hands r (vs .1)", "hands")])
     text += w.move("lasts") + "fsplit ! $ drop ! $ "
     w.replace(1, "others")
     for name in OUT:
@@ -1334,27 +1589,27 @@ def exported_load():
     for name in reversed(OUT):
         text += w.join(f"{name}-alive", "tokens", "tokens")
     w.line(text + w.move("unit"))
-    w.line(f"peeks ! Nothing (Is Nothing) (shows 𝓤 H A Nothing) t (w ∷ []) (λ is-unit. land ! (from ! (stop !)) (init ! {w.at(unit)} refl (unit-typed w is-unit)) $ drop ! $")
+    w.line(f"peeks ! Nothing (Is Nothing) (shows 𝓤 H A Nothing) t (w ∷ []) (λ is-unit. land ! (from ! (stop !)) (init ! {w.at(f'_{unit}')} refl (unit-typed w is-unit)) $ drop ! $")
     w.replace(1)
     w.assign("_0", "(of-opd ! (unit-lit !))", "(tt, tt)")
-    w.leave(
-        ["vunit"] + outs(lambda k: pointer(ref(k))) + [SHEET, FLOW, slice_value("x"), *values] + ["u", pointer("x"), slice_value("x")]
-        + [v for j in range(n) for v in (pointer(part("z", j)), values[j])] + ["w"] + outs(lambda k: pointer(ref(k)))
-    )
-    w.line(w.keep("tokens", *OUT, "sheet", "table", "lists") + "by ! (exits r (vs .1) (ws .1 .1 .0) (ws .1 .1 .1) answers writes fills tells hands long same)")
+    passed = outs(lambda k: pointer(ref(k))) + [*call.front_values(), slice_value("x"), *call.behind_values()]
+    w.leave(["vunit", *passed, "u", pointer("x"), slice_value("x"), *call.lent_values(), "w"] + outs(lambda k: pointer(ref(k))))
+    proofs = " ".join(call.named())
+    w.line(w.keep("tokens", *OUT, "sheet", "table", "lists") + f"by ! (exits r (vs .1) {zs} {ws} answers {proofs} fills tells hands long same)")
 
-    flat = items(outs(lambda k: pointer(ref(k))) + [SHEET, FLOW, slice_value("x"), *values])
-    all_tokens = "(" + " ⊛ (".join(outs(lambda k: f"‵ (flft κ{k} q{k})")) + " ⊛ raw (toks 𝓤 A 16 κs qs)" + ")" * 4
+    flat = items(passed)
+    all_tokens = "(" + " ⊛ (".join(outs(lambda k: f"‵ (flft κ{k} q{k})")) + f" ⊛ raw (toks 𝓤 A {call.lifetimes} κs qs)" + ")" * 4
     row = lambda k: "u32" if k < 3 else "(Array u32 9)"
     slot = lambda k: "(plain (λ _. u32))" if k < 3 else "(arrayOf (plain (λ _. u32)) 9)"
     last = lambda k: f"fres ({ref(k)} .name) ({row(k)} .coded .code ({'vs' + ' .1' * k + ' .0'}))"
-    kept = f"{all_tokens} ∷ " + "".join(f"‵ ({last(k)}) ∷ " for k in range(4)) + "‵ Sheet ∷ ‵ (finally T.the-row (x .name) zs) ∷ ‵ (last 14 z ws) ∷ []"
-    stays = outs(lambda k: f"gave-ref ({k} ∷ []) tt {slot(k)}") + ["stay-none-slice (4 ∷ []) tt (plain (λ _. u8)) yes", "stay-none (λ _. u32) yes", "gave-slice (5 ∷ []) tt (plain (λ _. T.the-row))"] + [f"gave-slice ({j + 6} ∷ []) tt (plain (λ _. u32))" for j in range(n)]
+    kept = f"{all_tokens} ∷ " + "".join(f"‵ ({last(k)}) ∷ " for k in range(4)) + f"‵ Sheet ∷ ‵ (finally T.the-row (x .name) zs) ∷ ‵ ({call.z('last')} z ws) ∷ []"
+    stays = outs(lambda k: f"gave-ref ({k} ∷ []) tt {slot(k)}") + call.stays(o)
     whole_κ = tuple_of(outs(lambda k: f"κ{k}"), "κs")
     whole_q = tuple_of(outs(lambda k: f"q{k}"), "qs")
-    own = lambda k: f"MutRef (named 0) κ{k} {row(k)} .own {ref(k)} ({pointer(ref(k))} ∷ [])"
-    out_owns = lambda end: "".join(f"(fsep ({own(k)}) " for k in range(4)) + end + ")" * 4
+    own_ref = lambda k: f"MutRef (named 0) κ{k} {row(k)} .own {ref(k)} ({pointer(ref(k))} ∷ [])"
+    out_owns = lambda end: "".join(f"(fsep ({own_ref(k)}) " for k in range(4)) + end + ")" * 4
     put_tokens = "sep 𝓤 (A .lft κ0 q0) (sep 𝓤 (A .lft κ1 q1) (sep 𝓤 (A .lft κ2 q2) (sep 𝓤 (A .lft κ3 q3) (emp 𝓤))))"
+    out_types = ["RefT ℕ"] * 3 + ["RefT (List ℕ)"]
     body = f"""abbrev stayed : Stays (the-fn.ended .signature .params) (the-fn.ended .kept)
 stayed = {tuple_of(stays)}
 
@@ -1364,25 +1619,25 @@ Outs = Unit {{0}} × (ℕ × (ℕ × (ℕ × (List ℕ × Unit {{0}}))))
 
 {UNIT_TYPED}
 module _ {MODEL} {RUN} where
-  abbrev Loading : Contract 𝓤
-  Loading = tripleOf 𝓤 H A loading.signature (loading.spec 𝓤 H A at-mem run)
+  abbrev {Own} : Contract 𝓤
+  {Own} = tripleOf 𝓤 H A {own}.signature ({own}.spec 𝓤 H A at-mem run)
 
   abbrev Put : Contract 𝓤
   Put = tripleOf 𝓤 H A put.signature (put.spec 𝓤 H A at-mem run)
 
 module _ {MODEL} (W : Given 𝓤 H A) {RUN}
-    (κ0 κ1 κ2 κ3 : Lft) (κs : Lfts 16) (q0 q1 q2 q3 : Share) (qs : Shares 16) (o0 o1 o2 : RefT ℕ) (o3 : RefT (List ℕ)) (y : RefT (List ℕ)) (flow : ℕ) (x : RefT (List Reach)) (z : Refs 14) (y-room : Room u8 (length (y .now))) (flow-fits : flow < 2 ^ 32) (x-room : Room T.the-row (length (x .now))) (z-room : Rooms 14 z) where
-  abbrev load-args : RefT (List ℕ) × (ℕ × (RefT (List Reach) × Refs 14))
-  load-args = (y, (flow, (x, z)))
+    (κ0 κ1 κ2 κ3 : Lft) (κs : Lfts {call.lifetimes}) (q0 q1 q2 q3 : Share) (qs : Shares {call.lifetimes}) (o0 o1 o2 : RefT ℕ) (o3 : RefT (List ℕ)) {call.bound()} where
+  abbrev {own_args} : {call.argument_types("RefT (List Reach)")}
+  {own_args} = {call.arguments("x")}
 
-  abbrev load-at : List Val × (List Val × (List Val × Values 14))
-  load-at = ({SHEET} ∷ [], ({FLOW} ∷ [], ({slice_value('x')} ∷ [], values 14 z)))
+  abbrev {call.verb}-at : {call.machine_types()}
+  {call.verb}-at = {call.machine(slice_value("x"))}
 
-  abbrev a : RefT ℕ × (RefT ℕ × (RefT ℕ × (RefT (List ℕ) × (RefT (List ℕ) × (ℕ × (RefT (List Reach) × Refs 14))))))
-  a = {tuple_of(outs(ref), "load-args")}
+  abbrev a : {product(out_types, f'({call.argument_types("RefT (List Reach)")})')}
+  a = {tuple_of(outs(ref), own_args)}
 
-  abbrev at : List Val × (List Val × (List Val × (List Val × (List Val × (List Val × (List Val × Values 14))))))
-  at = {tuple_of(outs(lambda k: f"{pointer(ref(k))} ∷ []"), "load-at")}
+  abbrev at : {product(["List Val"] * 4, f"({call.machine_types()})")}
+  at = {tuple_of(outs(lambda k: f"{pointer(ref(k))} ∷ []"), f"{call.verb}-at")}
 
   abbrev Post : Val → SProp 𝓤
   Post = walkOf 𝓤 H A the-fn.ended stayed (the-fn.clauses 𝓤 H A at-mem run) .post (({whole_κ}, {whole_q}, tt, a, at), tt)
@@ -1391,26 +1646,20 @@ module _ {MODEL} (W : Given 𝓤 H A) {RUN}
   Sheet = ShrSlice (named 0) (κs .0) u8 .own y ({SHEET} ∷ [])
 
   abbrev Lent : Fml
-  Lent = fsep (MutSlice (named 0) (κs .1 .0) T.the-row .own x ({slice_value('x')} ∷ [])) (owns (rows 14 (κs .1 .1)) z (values 14 z))
+  Lent = fsep (MutSlice (named 0) (κs .1 .0) T.the-row .own x ({slice_value('x')} ∷ [])) ({call.z_owns()})
 
-  -- `loading::load`: what its triple binds outside, and what it says of its answer, of the lists and of the reach records
-  abbrev to-load : Loading 𝓤 H A at-mem run .Ghost
-  to-load = ((κs, qs, tt, load-args, load-at), tt)
+  -- `{call.crate}::{call.verb}`: what its triple binds outside, and what it says of {listed([*call.subjects, 'the reach records'])}
+  abbrev {own_to} : {Own} 𝓤 H A at-mem run .Ghost
+  {own_to} = ((κs, qs, tt, {own_args}, {call.verb}-at), tt)
 
-  goes-load : ent 𝓤 (sep 𝓤 (toks 𝓤 A 16 κs qs) (sep 𝓤 (sem 𝓤 H A Sheet) (sem 𝓤 H A Lent))) (sep 𝓤 (Loading 𝓤 H A at-mem run .pre to-load) (sem 𝓤 H A Sheet))
-  goes-load =
-      qed W (raw (toks 𝓤 A 16 κs qs) ∷ ‵ Sheet ∷ ‵ Lent ∷ []) ∵ move ! (1 ∷ []) $
-      use1 W (‵ Sheet ⊛ ‵ Sheet) (shr-slice-copy 𝓤 H A W (named 0) (κs .0) u8 .twice y ({SHEET} ∷ [])) $ split ! $ move ! (3 ∷ []) $ {FLOW_OWNED} $ fjoin ! $ move ! (1 ∷ 0 ∷ []) $ fjoin ! $ move ! (2 ∷ 0 ∷ []) $
-      use2 W (raw (Loading 𝓤 H A at-mem run .pre to-load)) (qed W (raw (toks 𝓤 A 16 κs qs) ∷ ‵ (fsep Sheet (fsep ({FLOW_OWN}) Lent)) ∷ []) ∵ join ! $ frame ! $ done !) $ frame ! $ done !
+  goes-{call.verb} : ent 𝓤 (sep 𝓤 (toks 𝓤 A {call.lifetimes} κs qs) (sep 𝓤 (sem 𝓤 H A Sheet) (sem 𝓤 H A Lent))) (sep 𝓤 ({Own} 𝓤 H A at-mem run .pre {own_to}) (sem 𝓤 H A Sheet))
+  goes-{call.verb} =
+      qed W (raw (toks 𝓤 A {call.lifetimes} κs qs) ∷ ‵ Sheet ∷ ‵ Lent ∷ []) ∵ move ! (1 ∷ []) $
+      use1 W (‵ Sheet ⊛ ‵ Sheet) (shr-slice-copy 𝓤 H A W (named 0) (κs .0) u8 .twice y ({SHEET} ∷ [])) $ split ! $ move ! (3 ∷ []) $ {FLOW_OWNED} $ fjoin ! $ move ! (1 ∷ 0 ∷ []) $ fjoin ! $ {call.front_owned()}move ! (2 ∷ 0 ∷ []) $
+      use2 W (raw ({Own} 𝓤 H A at-mem run .pre {own_to})) (qed W (raw (toks 𝓤 A {call.lifetimes} κs qs) ∷ ‵ ({call.owned_in_front("Lent")}) ∷ []) ∵ join ! $ frame ! $ done !) $ frame ! $ done !
 
-  abbrev Answer : Load → Type 0
-  Answer r = loadSays r ≡ loadAnswer (y .now) flow (length (x .now)) (before z)
-
-  abbrev Written : Lists 14 → Type 0
-  Written ws = after ws ≡ loadColumns (y .now) flow (length (x .now)) (before z)
-
-  abbrev Filled : List Reach → Type 0
-  Filled zs = map reachSays zs ≡ loadRecords (y .now) flow (map reachSays (x .now)) (before z)
+{call.definitions()}  abbrev Filled : List Reach → Type 0
+  Filled zs = map reachSays zs ≡ {call.records()}
 
   -- `put_load`
   abbrev put-κs : Lfts 4
@@ -1431,49 +1680,83 @@ module _ {MODEL} (W : Given 𝓤 H A) {RUN}
   abbrev Hands : Load → ℕ × (ℕ × (ℕ × (List ℕ × Unit {{0}}))) → Type 0
   Hands r vs = vs .1 .1 .1 .0 ≡ handed (loadSays r) loadedValues (o3 .now)
 
-  exits : (r : Load) (vs : ℕ × (ℕ × (ℕ × (List ℕ × Unit {{0}})))) (zs : List Reach) (ws : Lists 14) → Answer r → Written ws → Filled zs → Tells r vs → Hands r vs → length zs ≡ length (x .now) → Same 14 z ws →
+  exits : (r : Load) (vs : ℕ × (ℕ × (ℕ × (List ℕ × Unit {{0}})))) (zs : List Reach) (ws : {call.z('Lists')}) → Answer r → {''.join(f'{name} ws → ' for name, _, _, _ in call.later)}Filled zs → Tells r vs → Hands r vs → length zs ≡ length (x .now) → {call.z('Same')} z ws →
       ent 𝓤 (⋆ 𝓤 H A ({kept})) (Post vunit)
-  exits r vs zs ws answers writes fills tells hands long same =
+  exits r vs zs ws answers {proofs} fills tells hands long same =
       qed W ({kept}) ∵
-      suffices ! _ (ends-at 𝓤 H A the-fn.ended stayed (the-fn.clauses 𝓤 H A at-mem run) W (({whole_κ}, {whole_q}, tt, a, at), tt) vunit tt (vs .0, (vs .1 .0, (vs .1 .1 .0, (vs .1 .1 .1 .0, (tt, (tt, (zs, ws))))))) (tt, (tt, (tt, (tt, (tt, (tt, (long, same)))))))) $
-      says-all ! (and-fact 𝓤 (subst (λ o. Told (foundBy o) (vs .0) (vs .1 .0) (vs .1 .1 .0)) answers tells) (and-fact 𝓤 (hands ∙ ap (λ o. handed o loadedValues (o3 .now)) answers) (and-fact 𝓤 writes (one-fact 𝓤 fills)))) $ frame ! $
-      move ! (5 ∷ 6 ∷ []) $ fjoin ! $ {FLOW_OWNED} $ fjoin ! $ move ! (5 ∷ 0 ∷ []) $ fjoin ! $ move ! (4 ∷ 0 ∷ []) $ fjoin ! $ move ! (3 ∷ 0 ∷ []) $ fjoin ! $ move ! (2 ∷ 0 ∷ []) $ fjoin ! $ move ! (1 ∷ 0 ∷ []) $ fjoin ! $
+      suffices ! _ (ends-at 𝓤 H A the-fn.ended stayed (the-fn.clauses 𝓤 H A at-mem run) W (({whole_κ}, {whole_q}, tt, a, at), tt) vunit tt {tuple_of(["vs .0", "vs .1 .0", "vs .1 .1 .0", "vs .1 .1 .1 .0"] + ["tt"] * (f + 2) + ["zs"], "ws")} {tuple_of(["tt"] * (o + f + 2) + ["long"], "same")}) $
+      says-all ! {fact_terms(["(subst (λ o. Told (foundBy o) (vs .0) (vs .1 .0) (vs .1 .1 .0)) answers tells)", "(hands ∙ ap (λ o. handed o loadedValues (o3 .now)) answers)", *call.named(), "fills"])} $ frame ! $
+      move ! (5 ∷ 6 ∷ []) $ fjoin ! $ {FLOW_OWNED} $ fjoin ! $ move ! (5 ∷ 0 ∷ []) $ fjoin ! $ {call.front_owned()}move ! (4 ∷ 0 ∷ []) $ fjoin ! $ move ! (3 ∷ 0 ∷ []) $ fjoin ! $ move ! (2 ∷ 0 ∷ []) $ fjoin ! $ move ! (1 ∷ 0 ∷ []) $ fjoin ! $
       frame ! $ feqI ! (List Val) (vunit ∷ []) (vunit ∷ []) refl $ done !
 
-  module _ (𝓣 : Tables 𝓤 H) (known-loading : Triple 𝓤 (𝓣 .C #loading) (Loading 𝓤 H A at-mem run)) (known-put : Triple 𝓤 (𝓣 .C #put) (Put 𝓤 H A at-mem run)) where
+  module _ (𝓣 : Tables 𝓤 H) (known-{own} : Triple 𝓤 (𝓣 .C #{own}) ({Own} 𝓤 H A at-mem run)) (known-put : Triple 𝓤 (𝓣 .C #put) (Put 𝓤 H A at-mem run)) where
     abbrev fm : FmC 𝓤 H (W .laws) (𝓣 .C)
     fm = fmOf 𝓤 H (W .laws) 𝓣
 
     trace : ent 𝓤 (onEntry 𝓤 H A the-fn.signature {whole_κ} {whole_q} a at) (WpFn 𝓤 H (𝓣 .C) (𝓣 .Λ) code.function ({flat}) Post)
     trace =
-        qed W ({all_tokens} ∷ ‵ {out_owns(f"(fsep Sheet (fsep ({FLOW_OWN}) Lent))")} ∷ []) ∵ enter ! (𝓣 .C) (𝓣 .Λ) code.function ({flat}) _ $
+        qed W ({all_tokens} ∷ ‵ {out_owns(f"({call.owned_in_front('Lent')})")} ∷ []) ∵ enter ! (𝓣 .C) (𝓣 .Λ) code.function ({flat}) _ $
 {closed(w.text())}
 """
-    tail = lambda name, i: f"({name}{' .1' * i} .0)"
     body += closing(
-        "yumbaqel-load-spec",
-        outs(lambda k: f"goes-gave-ref 𝓤 H A W 20 {k} tt {slot(k)}") + ["goes-none-slice 𝓤 H A W 20 (4 ∷ []) tt (plain (λ _. u8)) yes", "goes-none 𝓤 H A W 20 (λ _. u32) yes (λ κs x f. refl)", "goes-gave-slice 𝓤 H A W 20 5 tt (plain (λ _. T.the-row))"] + [f"goes-gave-slice 𝓤 H A W 20 {j + 6} tt (plain (λ _. u32))" for j in range(n)],
-        ["ptr-vals"] * 4 + ["slice-vals", "uint-vals w32"] + ["slice-vals"] * 15,
-        outs(lambda k: f"mut-tells (named {k}) {part('κs', k)} {row(k)}") + [f"shr-slice-tells (named 4) {part('κs', 4)} u8", "uint-tells w32", f"mut-slice-tells (named 5) {part('κs', 5)} T.the-row"] + [f"mut-slice-tells (named {j + 6}) {part('κs', j + 6)} u32" for j in range(n)],
-        " ".join(outs(lambda k: tail("κs", k))) + " (κs .1 .1 .1 .1) " + " ".join(outs(lambda k: tail("qs", k))) + " (qs .1 .1 .1 .1) " + " ".join(tail("a", i) for i in range(7)) + " (a" + " .1" * 7 + ") "
-        + f"(are{' .1' * 4} .0 .0 .1) (are{' .1' * 5} .0 .1) (are{' .1' * 6} .0 .0 .1) " + tuple_of([f"are{' .1' * (j + 7)} .0 .0 .1" for j in range(n)]),
-        [("loading", "Loading", "calls-loading·load"), ("put", "Put", "calls-answers·put-load")],
+        call.exported.replace("_", "-") + "-spec",
+        outs(lambda k: f"goes-gave-ref 𝓤 H A W {all_lifetimes} {k} tt {slot(k)}") + call.goes(all_lifetimes, o),
+        ["ptr-vals"] * 4 + call.spells(),
+        outs(lambda k: f"mut-tells (named {k}) {part('κs', k)} {row(k)}") + call.tells(o),
+        " ".join(outs(lambda k: part("κs", k))) + " (κs .1 .1 .1 .1) " + " ".join(outs(lambda k: part("qs", k))) + " (qs .1 .1 .1 .1) " + " ".join(outs(lambda k: part("a", k))) + " " + call.passed(o),
+        [(own, Own, f"calls-{own}·{call.verb}"), ("put", "Put", "calls-answers·put-load")],
     )
     write(
         "yumbaqel",
-        "yumbaqel_load",
-        "-- `yumbaqel_load` meets its contract: the loading answers, writes the fourteen lists and fills the reach records, and `put_load` hands the\n-- answer out. Every list and every reference is passed on.",
-        IMPORTS_LOAD + IMPORTS_REACH + "use Rattle.otis.specs.Outcomes.{handed}\nuse Rattle.answers.specs.Answers.{Told, foundBy, loadedValues}\n"
-        + callee_imports("Rattle.loading.proofs.load", "loading") + callee_imports("Rattle.answers.proofs.put_load", "put")
-        + LENT.replace("loading·proofs.proofs", "loading.proofs") + own_imports("yumbaqel", "yumbaqel_load", code=False),
+        call.exported,
+        call.exported_head,
+        call.imports + IMPORTS_REACH + "use Rattle.otis.specs.Outcomes.{handed}\nuse Rattle.answers.specs.Answers.{Told, foundBy, loadedValues}\n"
+        + callee_imports(f"Rattle.{call.crate}.proofs.{call.verb}", own) + callee_imports("Rattle.answers.proofs.put_load", "put")
+        + call.lent("yumbaqel") + own_imports("yumbaqel", call.exported, code=False),
         body,
     )
+
+
+LOAD = Call(
+    verb="load",
+    crate="loading",
+    document="document 01",
+    core="Loaded::assemble",
+    core_at=("assembly", "Loaded.assemble"),
+    head="-- `load` meets its contract: the loading proper answers and writes the fourteen lists, `fill_count` says by its answer how many records\n-- are due, and `fill` puts them in. Every list is passed on.",
+    exported="yumbaqel_load",
+    exported_head="-- `yumbaqel_load` meets its contract: the loading answers, writes the fourteen lists and fills the reach records, and `put_load` hands the\n-- answer out. Every list and every reference is passed on.",
+    imports=IMPORTS_LOAD,
+    lent=loading_imports,
+    lists=len(LISTS),
+)
+
+OPEN = Call(
+    verb="open",
+    crate="opening",
+    document="document 02",
+    core="pool::open_lists",
+    core_at=("pool", "open_lists"),
+    head="-- `open` meets its contract: the opening proper answers and writes the lists, the shared lists and the table, `fill_count` says by its answer\n-- how many records are due, and `fill` puts them in. Every list is passed on.",
+    exported="yumbaqel_pool_open",
+    exported_head="-- `yumbaqel_pool_open` meets its contract: the opening answers, writes the lists and the table and fills the reach records, and `put_load` hands\n-- the answer out. Every list and every reference is passed on.",
+    imports=call_imports("Pool.{openAnswer, openColumns, openRecords, poolOpen}"),
+    lent=opening_imports,
+    lists=len(LISTS) + len(SHARED),
+    front=("river",),
+    array=40,
+    given=" (pool-before z) river (figure z)",
+    subjects=("its answer", "the lists", "the pool"),
+    facts=(("Pooled", "pools", "pool-after ws", "poolOpen"),),
+)
 
 
 if __name__ == "__main__":
     put()
     take()
     fill()
-    load()
+    load(LOAD)
     load_lists()
-    exported_load()
+    exported(LOAD)
+    load(OPEN)
+    exported(OPEN)

@@ -1,7 +1,8 @@
-"""The river of document 01, with requests 1 and 2 of document 02, in plain whole numbers: the one in Python.
+"""The river of document 01, with requests 1 to 3 of document 02, in plain whole numbers: the one in Python.
 
 The parts stand in document 01's order: the sheet and its tests, flow and
-half-step numbers, the sweep, the calls, the listing.  Every division is exact
+half-step numbers, the sweep, the calls, the listing; before the listing stand
+the calls of several rivers on shared lists.  Every division is exact
 or rounded as the document says; there is no floating point here.  The tools
 take ranges and verdicts from here, the tests the figures that they compare.
 """
@@ -27,6 +28,7 @@ MOST_REACHES = 64
 MOST_ROWS = 256
 MOST_GAUGES = 32
 MOST_FLOW_ROWS = 64
+MOST_RIVERS = 8                     # that share lists
 LATERAL = 100_000                   # cm in a km: lateral flow is per km, dx in cm
 RATE_UNIT = 10 ** 9                 # rates are in 10^-9 per second
 KD_UNIT = 10 ** 6                   # Kd is in millionths of m3/g
@@ -608,18 +610,33 @@ def test_figures(river: list[Segment], state: Optional[State], concentrations: I
         raise Refusal(14)
 
 
-def load(sheet: bytes, row: int, lists: Lists, records: list[Optional[Reach]]) -> Loaded:
-    """Loading tests 1 to 13, then fills the lists with the set of that flow row and the first reach records."""
+def rivers_on(sheet: bytes) -> tuple[Sheet, list[list[Segment]]]:
+    """Tests 1 to 12 and 16: what is on the sheet, and the river with each flow's set."""
     found = read_sheet(sheet)
-    rivers = rivers_of(found)
-    test_lists(len(rivers[0]), lists.shortest())
+    return found, rivers_of(found)
+
+
+def test_loading(found: Sheet, row: int, lists: Lists, records: list[Optional[Reach]]) -> None:
+    """13 of a loading: also of the reach records, and of a flow row's number past the rows."""
+    test_lists(segment_count(found.reaches), lists.shortest())
     if len(records) < len(found.reaches) or row > len(found.flow_rows):
         raise Refusal(13)
-    lists.fill(rivers[row])
+
+
+def fill(found: Sheet, river: list[Segment], lists: Lists, records: list[Optional[Reach]]) -> Loaded:
+    """What an accepted loading writes: the lists with one flow's set, and the first reach records."""
+    lists.fill(river)
     records[:len(found.reaches)] = found.reaches
-    return Loaded(found.header.M, found.header.interval, len(rivers[row]),
+    return Loaded(found.header.M, found.header.interval, len(river),
                   found.rows_begin, len(found.rows), found.gauges_begin, len(found.gauges),
                   found.flow_rows_begin, len(found.flow_rows))
+
+
+def load(sheet: bytes, row: int, lists: Lists, records: list[Optional[Reach]]) -> Loaded:
+    """Loading tests 1 to 13, then fills the lists with the set of that flow row and the first reach records."""
+    found, rivers = rivers_on(sheet)
+    test_loading(found, row, lists, records)
+    return fill(found, rivers[row], lists, records)
 
 
 def start(lists: Lists, segments: int, state: State, U: int) -> None:
@@ -671,6 +688,115 @@ def upstream(starts: list[int], concentrations: list[int], M: int, step_number: 
         raise Refusal(3)
     refuse_first(8, "row", row_faults([Row(*row) for row in zip(starts, concentrations)], M))
     return [figure for begin, figure in zip(starts, concentrations) if begin <= step_number][-1]
+
+
+# Several rivers on shared lists
+
+
+class Slot(NamedTuple):
+    """What the table has of a number: whether a river is open under it, its stretch of the shared lists, U, count."""
+
+    opened: int                     # 0 where none is open
+    first: int                      # segment of the shared lists, which count from 0
+    segments: int
+    upstream: int
+    steps: int
+
+    @property
+    def stretch(self) -> range:
+        return range(self.first, self.first + self.segments)
+
+
+Table = list[Slot]                  # of the numbers 1 to 8, in their order
+
+
+def open_rivers(table: Table) -> list[Slot]:
+    return [slot for slot in table if slot.opened]
+
+
+def test_room(table: Table, number: int, segments: int) -> None:
+    """17. The number is outside 1 to 8 or already open, or these segments and those of the open rivers exceed 1,024."""
+    if not 1 <= number <= MOST_RIVERS or table[number - 1].opened:
+        raise Refusal(17)
+    if segments + sum(slot.segments for slot in open_rivers(table)) > MOST_SEGMENTS:
+        raise Refusal(17)
+
+
+def test_table(table: Table) -> None:
+    """18. Open rivers pass segment 1,024, or overlap: a segment is counted twice."""
+    stretches = [slot.stretch for slot in open_rivers(table)]
+    if any(stretch.stop > MOST_SEGMENTS for stretch in stretches):
+        raise Refusal(18)
+    if len(set().union(*stretches)) < sum(map(len, stretches)):
+        raise Refusal(18)
+
+
+def test_river(table: Table, number: int) -> None:
+    """18. The named river is not open, or the table is at fault."""
+    if not 1 <= number <= MOST_RIVERS or not table[number - 1].opened:
+        raise Refusal(18)
+    test_table(table)
+
+
+class Pool:
+    """Rivers under their numbers, kept apart: each open one has a state of its own, which no other one's call reaches.
+
+    A call is handed the table, and the length of the shortest shared list, as its caller has them: these decide 17,
+    18 and 13.  Figures come from the river's own state alone.
+    """
+
+    def __init__(self) -> None:
+        self.rivers: dict[int, State] = {}
+
+    @classmethod
+    def of(cls, table: Table, C: list[int], Z: list[int], W: list[int]) -> Pool:
+        """Each open river with what stands on its stretch of these lists."""
+        found = cls()
+        for number, slot in enumerate(table, 1):
+            if slot.opened:
+                part = slice(slot.stretch.start, slot.stretch.stop)
+                found.rivers[number] = State(C[part], Z[part], W[part], slot.upstream, slot.steps)
+        return found
+
+    def open(self, number: int, sheet: bytes, row: int, lists: Lists, records: list[Optional[Reach]], shared: int,
+             table: Table, U: int) -> Loaded:
+        """Loads and starts in one call: 1 to 12 and 16, then 17, 18 of the table alone, 13 and 14."""
+        found, rivers = rivers_on(sheet)
+        segments = len(rivers[0])
+        test_room(table, number, segments)
+        test_table(table)
+        test_loading(found, row, lists, records)
+        test_lists(MOST_SEGMENTS, shared)
+        if U > HIGHEST:
+            raise Refusal(14)
+        loaded = fill(found, rivers[row], lists, records)
+        self.rivers[number] = State.of_length(segments)
+        start(lists, segments, self.rivers[number], U)
+        return loaded
+
+    def named(self, number: int, shared: int, table: Table) -> State:
+        """18, then 13 of the shared lists; the river's own state."""
+        test_river(table, number)
+        test_lists(MOST_SEGMENTS, shared)
+        return self.rivers[number]
+
+    def start(self, number: int, lists: Lists, shared: int, table: Table, U: int) -> None:
+        state = self.named(number, shared, table)
+        start(lists, len(state.C), state, U)
+
+    def step(self, number: int, old: Lists, lists: Lists, shared: int, table: Table, p: list[int], y: list[int],
+             new_U: int, M: int) -> None:
+        state = self.named(number, shared, table)
+        step(old, lists, len(state.C), state, p, y, new_U, M)
+
+    def report(self, number: int, lists: Lists, shared: int, table: Table, gauge: int) -> tuple[int, int, int]:
+        state = self.named(number, shared, table)
+        return report(lists, len(state.C), state, gauge)
+
+    def close(self, number: int, table: Table) -> None:
+        """18 alone."""
+        test_river(table, number)
+        del self.rivers[number]
 
 
 # The listing

@@ -167,6 +167,26 @@ pub fn put_upstream(
     }
 }
 
+// What the tests of a start found, for a call that hands out no value.
+pub fn start_finding(answer: Start) -> Finding
+    ensures { λ r. ⌜ findingSays r ≡ foundBy (startSays answer) ⌝ }
+{
+    match answer {
+        Start::Started(_) => Finding::Passes,
+        Start::Refused(refusal, at) => Finding::Fails(refusal, at),
+    }
+}
+
+// And of a step.
+pub fn step_finding(answer: Step) -> Finding
+    ensures { λ r. ⌜ findingSays r ≡ foundBy (stepSays answer) ⌝ }
+{
+    match answer {
+        Step::Stepped(_) => Finding::Passes,
+        Step::Refused(refusal, at) => Finding::Fails(refusal, at),
+    }
+}
+
 // A call that hands out no value.
 pub fn put_finding(found: Finding, number: &mut u32, kind: &mut u32, place: &mut u32)
     ensures { λ _. ⌜ Told (findingSays found) (exit number) (exit kind) (exit place) ⌝ }

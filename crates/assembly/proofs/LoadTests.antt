@@ -8,16 +8,15 @@ use native.Mathlib.Nat.{eq-or-lt-of-le}
 use native.Mathlib.Omega.{arith}
 use borrow.Author.Tests.{lt-ltb, le-ltb, ltb-false}
 use lib.Dec.{ltb}
-use Rattle.lists.specs.Lists.{anyShorter}
 use Rattle.lists.proofs.Shorter.{neither, all-long}
-use Rattle.model.specs.Sheet.{reachCount, flowRowCount, segmentCount}
+use Rattle.model.specs.Sheet.{flowRowCount, segmentCount}
 use Rattle.model.specs.Flow.{courseOf}
-use Rattle.model.specs.State.{Columns, columnLists, loadedSegments, writeSegments}
-use Rattle.model.specs.Refusals.{Place, nothing, segment, Finding, passes, fails, testEach, test, first, accepted, refused}
-use Rattle.model.specs.Load.{testFlows, loaded, sheetTests, courseTests, listTests, loadTests, loadAnswer, loadColumns}
-use Rattle.model.proofs.Refusals.{first-rest, first-front, first-both, all-pass, flows-clear, each-clear, test-clear, outcome-passes, outcome-fails}
-use Rattle.terms.specs.Lent.{Long}
-use Rattle.course.specs.Segments.{courseFault, Clear, ClearFlows, Read}
+use Rattle.model.specs.State.{Columns, columnLists}
+use Rattle.model.specs.Refusals.{Place, nothing, segment, Finding, passes, fails, testEach, test, first, answer}
+use Rattle.model.specs.Load.{testFlows, loaded, sheetTests, courseTests, riverTests, listTests, loadTests, loadAnswer, columnsAfter, loadColumns}
+use Rattle.model.proofs.Refusals.{first-of, first-rest, first-front, first-both, all-pass, flows-clear, each-clear, test-clear}
+use Rattle.course.specs.Segments.{courseFault, ClearFlows}
+use Rattle.assembly.specs.Fit.{Fit}
 
 -- test k of tests 10 to 12, with every flow in turn
 abbrev pub flowsTest : ℕ → ℕ → List ℕ → Finding
@@ -71,43 +70,41 @@ module _ (rows row : ℕ) (known : row ≤ rows) where
     pub test-enough : reaches ≤ records → test 13 (ltb rows row || short || ltb records reaches) ≡ passes
     test-enough h = rw (le-ltb rows row known, e, le-ltb records reaches h)
 
--- the tests that follow those of the sheet, over n segments
-abbrev pub later : List ℕ → (row records : ℕ) → Columns → (n : ℕ) → List Finding
-later sheet row records x n =
-    flowsTest 10 n sheet ∷
-    flowsTest 11 n sheet ∷
-    flowsTest 12 n sheet ∷
-    test 13 (ltb (flowRowCount sheet) row || anyShorter n (columnLists x) || ltb records (reachCount sheet)) ∷
-    []
+-- one test by itself
+pub first-one : (f : Finding) → first (f ∷ []) ≡ f
+first-one passes = refl
+first-one (fails number place) = refl
 
-module _ (sheet : List ℕ) (row records : ℕ) (x : Columns) where
-  -- all tests: those of the sheet, and the later ones
-  load-tests : (n : ℕ) → n ≡ segmentCount sheet → loadTests sheet row records x ≡ sheetTests sheet ++ later sheet row records x n
-  unfolding loadTests sheetTests courseTests listTests courseFault
-  load-tests n q = ap (λ k. sheetTests sheet ++ later sheet row records x k) (sym q)
+-- the tests that follow those of the sheet's own fields, over n segments
+abbrev pub later : List ℕ → (n : ℕ) → List Finding
+later sheet n = flowsTest 10 n sheet ∷ flowsTest 11 n sheet ∷ flowsTest 12 n sheet ∷ []
+
+module _ (sheet : List ℕ) where
+  -- tests 1 to 12: those of the sheet's own fields, and the later ones
+  river-tests : (n : ℕ) → n ≡ segmentCount sheet → riverTests sheet ≡ sheetTests sheet ++ later sheet n
+  unfolding sheetTests courseTests courseFault
+  river-tests n q = ap (λ k. sheetTests sheet ++ later sheet k) (sym q)
 
   -- a sheet that its own tests pass, and one that they refuse
-  pub sheet-passes : (n : ℕ) → n ≡ segmentCount sheet → first (sheetTests sheet) ≡ passes → Judging (loadTests sheet row records x) (later sheet row records x n)
-  sheet-passes n q e = record { rest = rw (load-tests n q) (sym (first-rest (sheetTests sheet) (later sheet row records x n) e)) }
+  pub sheet-passes : (n : ℕ) → n ≡ segmentCount sheet → first (sheetTests sheet) ≡ passes → Judging (riverTests sheet) (later sheet n)
+  sheet-passes n q e = record { rest = rw (river-tests n q) (sym (first-rest (sheetTests sheet) (later sheet n) e)) }
 
-  pub sheet-fails : {number : ℕ} {place : Place} → first (sheetTests sheet) ≡ fails number place → fails number place ≡ first (loadTests sheet row records x)
-  sheet-fails e = rw (load-tests _ refl) (sym (first-front (sheetTests sheet) (later sheet row records x (segmentCount sheet)) e))
+  pub sheet-fails : {number : ℕ} {place : Place} → first (sheetTests sheet) ≡ fails number place → fails number place ≡ first (riverTests sheet)
+  sheet-fails e = rw (river-tests _ refl) (sym (first-front (sheetTests sheet) (later sheet (segmentCount sheet)) e))
 
+module _ (sheet : List ℕ) (row records : ℕ) (x : Columns) where
   -- what the tests leave where all pass
-  pub record Ready (n : ℕ) : Type 0 where
-    pub read : Read sheet n
-    pub clear : Clear 13 n (courseOf sheet row)
-    pub long : Long n x
-
-  pub ready : first (loadTests sheet row records x) ≡ passes → (n : ℕ) → n ≡ segmentCount sheet → Ready n
-  ready e n q =
-      let both = first-both (sheetTests sheet) (later sheet row records x n) (rw (load-tests n q) at e) in
-      let all = all-pass (later sheet row records x n) (both .1) in
-      let lists = neither _ _ (neither _ _ (test-clear 13 _ (all .1 .1 .1 .0)) .0) in
-      let long = all-long n (columnLists x) (lists .1) in
+  pub fit : first (riverTests sheet) ≡ passes → first (listTests sheet row records x) ≡ passes → Fit sheet row x
+  unfolding listTests
+  fit river lists =
+      let n = segmentCount sheet in
+      let both = first-both (sheetTests sheet) (later sheet n) (rw (river-tests sheet n refl) at river) in
+      let all = all-pass (later sheet n) (both .1) in
+      let clear = neither _ _ (neither _ _ (test-clear 13 _ (all-pass (listTests sheet row records x) lists .0)) .0) in
+      let long = all-long n (columnLists x) (clear .1) in
       record {
-        read = record { passed = both .0; count = q };
-        clear = clear-next (clear-next (clear-next clear-start (all .0)) (all .1 .0)) (all .1 .1 .0) .each row (ltb-false _ _ (lists .0));
+        read = record { passed = both .0; count = refl };
+        clear = clear-next (clear-next (clear-next clear-start (all .0)) (all .1 .0)) (all .1 .1 .0) .each row (ltb-false _ _ (clear .0));
         long = record {
           numbers = record {
             e = long .0;
@@ -128,20 +125,21 @@ module _ (sheet : List ℕ) (row records : ℕ) (x : Columns) where
         };
       }
 
-  -- an accepted loading and a refused one
-  pub answer-accepted : first (loadTests sheet row records x) ≡ passes → accepted (loaded sheet) ≡ loadAnswer sheet row records x
+  -- tests 1 to 12 and then 13 are a loading's
+  pub load-tests : first (first (riverTests sheet) ∷ listTests sheet row records x) ≡ first (loadTests sheet row records x)
+  unfolding loadTests
+  load-tests = first-of (riverTests sheet) (listTests sheet row records x)
+
+  pub fit-both : first (loadTests sheet row records x) ≡ passes → Fit sheet row x
+  unfolding loadTests
+  fit-both e = let both = first-both (riverTests sheet) (listTests sheet row records x) e in fit (both .0) (both .1)
+
+  -- a loading's answer and what it leaves, from what its tests find
+  pub load-answer : (found : Finding) → found ≡ first (loadTests sheet row records x) → answer found (loaded sheet) ≡ loadAnswer sheet row records x
   unfolding loadAnswer
-  answer-accepted e = sym (outcome-passes (loadTests sheet row records x) (loaded sheet) e)
+  load-answer found e = ap (λ t. answer t (loaded sheet)) e
 
-  pub lists-accepted : first (loadTests sheet row records x) ≡ passes → writeSegments (loadedSegments sheet row) x ≡ loadColumns sheet row records x
+  pub load-columns : (found : Finding) → found ≡ first (loadTests sheet row records x) →
+      columnsAfter (answer found (loaded sheet)) sheet row x ≡ loadColumns sheet row records x
   unfolding loadColumns
-  lists-accepted e = rw (← answer-accepted e)
-
-  module _ {number : ℕ} {place : Place} (e : first (loadTests sheet row records x) ≡ fails number place) where
-    pub answer-refused : refused number place ≡ loadAnswer sheet row records x
-    unfolding loadAnswer
-    answer-refused = sym (outcome-fails (loadTests sheet row records x) (loaded sheet) e)
-
-    pub lists-refused : x ≡ loadColumns sheet row records x
-    unfolding loadColumns
-    lists-refused = rw (← answer-refused)
+  load-columns found e = ap (λ a. columnsAfter a sheet row x) (load-answer found e)

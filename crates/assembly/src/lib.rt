@@ -1,12 +1,14 @@
 // A loading over plain lists: any bytes in, half-step numbers or a numbered refusal out. Of the list of reach records it is handed the length.
 ghost use mathlib.Core.Path.{_≡_};
-ghost use Rattle.model.specs.Refusals.{first};
-ghost use Rattle.model.specs.Load.{loaded, loadTests, loadAnswer, loadColumns};
+ghost use mathlib.Core.List.{_∷_};
+ghost use Rattle.model.specs.Refusals.{passes, first, answer};
+ghost use Rattle.model.specs.Load.{riverTests, listTests, loaded, loadAnswer, columnsAfter, loadColumns};
 ghost use Rattle.terms.specs.Says.{findingSays};
 ghost use Rattle.lists.specs.Lent.{entry, exit};
 ghost use Rattle.terms.specs.Lent.{columns};
 ghost use Rattle.course.specs.Segments.{Read};
 ghost use Rattle.assembly.specs.Says.{loadedSays, loadSays};
+ghost use Rattle.assembly.specs.Fit.{Fit};
 use columns::any_short;
 use columns::fill;
 use course::flows_test;
@@ -42,8 +44,26 @@ pub enum Load {
     Refused(u32, Place),
 }
 
-// What a loading's tests find; `row` is the flow row's number, `records` the length of the list of reach records.
-fn load_test(
+// Tests 1 to 12 of a sheet, with 16 among them.
+pub fn river_test(sheet: &[u8]) -> Finding
+    ensures { λ r. ⌜ findingSays r ≡ first (riverTests (entry sheet)) ⌝ }
+{
+    if let Finding::Fails(number, place) = sheet::sheet_test(sheet) {
+        return Finding::Fails(number, place);
+    }
+    let n = segment_count(sheet);
+    if let Finding::Fails(number, place) = flows_test(sheet, n, 10) {
+        return Finding::Fails(number, place);
+    }
+    if let Finding::Fails(number, place) = flows_test(sheet, n, 11) {
+        return Finding::Fails(number, place);
+    }
+    flows_test(sheet, n, 12)
+}
+
+// Test 13 of a loading, behind what the tests before it find; `row` is the flow row's number, `records` the length of the list of reach records.
+pub fn list_test(
+    found: Finding,
     sheet: &[u8],
     row: u32,
     records: usize,
@@ -62,25 +82,31 @@ fn load_test(
     kd: &[u32],
     start: &[u32],
 ) -> Finding
-    ensures { λ r. ⌜ findingSays r ≡ first (loadTests (entry sheet) row records (columns entry e g l a b k ks h m s cl cb kd start)) ⌝ }
+    ensures { λ r. ⌜ findingSays r ≡ first (findingSays found ∷ listTests (entry sheet) row records (columns entry e g l a b k ks h m s cl cb kd start)) ⌝ }
 {
-    if let Finding::Fails(number, place) = sheet::sheet_test(sheet) {
-        return Finding::Fails(number, place);
-    }
-    let n = segment_count(sheet);
-    if let Finding::Fails(number, place) = flows_test(sheet, n, 10) {
-        return Finding::Fails(number, place);
-    }
-    if let Finding::Fails(number, place) = flows_test(sheet, n, 11) {
-        return Finding::Fails(number, place);
-    }
-    if let Finding::Fails(number, place) = flows_test(sheet, n, 12) {
+    if let Finding::Fails(number, place) = found {
         return Finding::Fails(number, place);
     }
     if flow_row_count(sheet) < row {
         return Finding::Fails(13, Place::Nothing);
     }
-    if any_short(n, e, g, l, a, b, k, ks, h, m, s, cl, cb, kd, start) {
+    if any_short(
+        segment_count(sheet),
+        e,
+        g,
+        l,
+        a,
+        b,
+        k,
+        ks,
+        h,
+        m,
+        s,
+        cl,
+        cb,
+        kd,
+        start,
+    ) {
         return Finding::Fails(13, Place::Nothing);
     }
     if records < reach_count(sheet) as usize {
@@ -105,6 +131,61 @@ impl Loaded {
             gauges: gauge_count(sheet),
             flowrowsat: flow_rows_at(sheet) as u32,
             flowrows: flow_row_count(sheet),
+        }
+    }
+
+    // What a loading or an opening does whose tests find this: where all pass, each list's first entries are written, with the set of that row's
+    // flow, otherwise nothing.
+    pub fn write(
+        found: Finding,
+        sheet: &[u8],
+        row: u32,
+        e: &mut [u32],
+        g: &mut [u32],
+        l: &mut [u32],
+        a: &mut [u32],
+        b: &mut [u32],
+        k: &mut [u32],
+        ks: &mut [u32],
+        h: &mut [u32],
+        m: &mut [u32],
+        s: &mut [u32],
+        cl: &mut [u32],
+        cb: &mut [u32],
+        kd: &mut [u32],
+        start: &mut [u32],
+    ) -> Load
+        requires { ⌜ (findingSays found ≡ passes → Fit (now sheet) row (columns now e g l a b k ks h m s cl cb kd start)) ⌝ }
+        ensures answer { λ r. ⌜ loadSays r ≡ answer (findingSays found) (loaded (entry sheet)) ⌝ }
+        ensures lists { λ r. ⌜ columns exit e g l a b k ks h m s cl cb kd start ≡ columnsAfter (answer (findingSays found) (loaded (entry sheet)))
+            (entry sheet) row (columns entry e g l a b k ks h m s cl cb kd start) ⌝ }
+    {
+        match found {
+            Finding::Passes => {
+                let n = segment_count(sheet);
+                let values = Loaded::read(sheet, n);
+                fill(
+                    sheet,
+                    row,
+                    n,
+                    e,
+                    g,
+                    l,
+                    a,
+                    b,
+                    k,
+                    ks,
+                    h,
+                    m,
+                    s,
+                    cl,
+                    cb,
+                    kd,
+                    start,
+                );
+                Load::Loaded(values)
+            }
+            Finding::Fails(number, place) => Load::Refused(number, place),
         }
     }
 
@@ -133,7 +214,8 @@ impl Loaded {
         ensures lists { λ r. ⌜ columns exit e g l a b k ks h m s cl cb kd start ≡ loadColumns (entry sheet) row records
             (columns entry e g l a b k ks h m s cl cb kd start) ⌝ }
     {
-        let found = load_test(
+        let found = list_test(
+            river_test(sheet),
             sheet,
             row,
             records,
@@ -152,32 +234,24 @@ impl Loaded {
             &kd[..],
             &start[..],
         );
-        match found {
-            Finding::Passes => {
-                let n = segment_count(sheet);
-                let values = Loaded::read(sheet, n);
-                fill(
-                    sheet,
-                    row,
-                    n,
-                    &mut e[..],
-                    &mut g[..],
-                    &mut l[..],
-                    &mut a[..],
-                    &mut b[..],
-                    &mut k[..],
-                    &mut ks[..],
-                    &mut h[..],
-                    &mut m[..],
-                    &mut s[..],
-                    &mut cl[..],
-                    &mut cb[..],
-                    &mut kd[..],
-                    &mut start[..],
-                );
-                Load::Loaded(values)
-            }
-            Finding::Fails(number, place) => Load::Refused(number, place),
-        }
+        Loaded::write(
+            found,
+            sheet,
+            row,
+            e,
+            g,
+            l,
+            a,
+            b,
+            k,
+            ks,
+            h,
+            m,
+            s,
+            cl,
+            cb,
+            kd,
+            start,
+        )
     }
 }

@@ -3,3 +3,5 @@ pub mod Tab
 pub mod Over
 pub mod Shorter
 pub mod Either
+pub mod Below
+pub mod Stretch

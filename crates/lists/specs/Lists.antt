@@ -1,9 +1,9 @@
--- Lists of any length and content, as a caller lends them: a table of values, what a call writes, the lowest entry at fault.
+-- Lists of any length and content, as a caller lends them: a table of values, what a call writes, the lowest entry at fault, a stretch.
 use mathlib.Core.Bool.{Bool, false, cond, _||_}
 use mathlib.Core.List.{List, [], _∷_, _++_}
 use Prim.Native.Nat.{ℕ, zero, suc, _+_}
 use lib.Dec.{leb, ltb}
-use lib.ListN.{length, getD, drop}
+use lib.ListN.{length, getD, take, drop}
 
 -- f at j, j + 1, .., j + n − 1
 abbrev pub tab {ℓ} : {A : Type ℓ} → ℕ → ℕ → (ℕ → A) → List A
@@ -32,3 +32,21 @@ anyShorter n (list ∷ lists) = ltb (length list) n || anyShorter n lists
 unfoldable pub notRising : List ℕ → ℕ → Bool
 notRising list zero = false
 notRising list (suc i) = leb (getD list (suc i) 0) (getD list i 0)
+
+-- the n entries from `first` on
+abbrev pub stretch : (first n : ℕ) → List ℕ → List ℕ
+stretch first n list = take n (drop first list)
+
+-- the list with these in the place of its n entries from `first` on
+abbrev pub splice : (first n : ℕ) → (entries list : List ℕ) → List ℕ
+splice first n entries list = take first list ++ (entries ++ drop (first + n) list)
+
+-- f holds at one of 0, .., n − 1
+unfoldable pub anyBelow : ℕ → (ℕ → Bool) → Bool
+anyBelow zero f = false
+anyBelow (suc n) f = anyBelow n f || f n
+
+-- f at 0, .., n − 1, added up
+unfoldable pub sumBelow : ℕ → (ℕ → ℕ) → ℕ
+sumBelow zero f = 0
+sumBelow (suc n) f = sumBelow n f + f n

@@ -5,3 +5,4 @@ pub mod FlowRows
 pub mod Bench
 pub mod FlowBench
 pub mod LateralBench
+pub mod PoolBench

@@ -38,6 +38,12 @@ first-front [] us e = fails-passes (sym e)
 first-front (passes ∷ ts) us e = first-front ts us e
 first-front (fails number place ∷ ts) us e = e
 
+-- a row in front of another counts by what it finds
+pub first-of : (ts us : List Finding) → first (first ts ∷ us) ≡ first (ts ++ us)
+first-of [] us = refl
+first-of (passes ∷ ts) us = first-of ts us
+first-of (fails number place ∷ ts) us = refl
+
 -- where two rows together pass, both do
 pub first-both : (ts us : List Finding) → first (ts ++ us) ≡ passes → (first ts ≡ passes) × (first us ≡ passes)
 first-both [] us e = (refl, e)

@@ -12,6 +12,10 @@ pub mod Upstream
 pub mod Calls
 pub mod Runs
 pub mod Claim
+pub mod Pool
+pub mod PoolRuns
+pub mod PoolClaim
 pub mod Bench
 pub mod FlowBench
 pub mod LateralBench
+pub mod PoolBench

@@ -86,15 +86,18 @@ courseTests n rows course =
     testFlows rows (λ r. testEach 12 segment n (λ i. sumFault (numbers (course r) i))) ∷
     []
 
+-- tests 1 to 12, of a sheet by itself; "16 .. after 9"
+abbrev pub riverTests : List ℕ → List Finding
+riverTests sheet = sheetTests sheet ++ courseTests (segmentCount sheet) (flowRowCount sheet) (courseOf sheet)
+
 -- test 13, of "a flow row's number (.. 13 if past the rows)", which is r, and of the lists lent; `records` is the length of the list of reach records
 unfoldable pub listTests : List ℕ → (r records : ℕ) → Columns → List Finding
 listTests sheet r records columns =
     test 13 (ltb (flowRowCount sheet) r || anyShorter (segmentCount sheet) (columnLists columns) || ltb records (reachCount sheet)) ∷ []
 
--- "Loading tests 1 to 13"; "16 .. after 9"
+-- "Loading tests 1 to 13"
 unfoldable pub loadTests : List ℕ → (r records : ℕ) → Columns → List Finding
-loadTests sheet r records columns =
-    sheetTests sheet ++ courseTests (segmentCount sheet) (flowRowCount sheet) (courseOf sheet) ++ listTests sheet r records columns
+loadTests sheet r records columns = riverTests sheet ++ listTests sheet r records columns
 
 -- "Its result also gives M, the print interval, the segment count, and where the rows and the gauges begin on the sheet and how
 -- many there are", and "tells where the flow rows begin and how many there are"

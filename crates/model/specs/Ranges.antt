@@ -56,6 +56,10 @@ mostSteps = 100000
 abbrev pub mostSegments : ℕ
 mostSegments = 1024
 
+-- Document 02, 3: "a number from 1 to 8", and "Up to eight rivers"
+abbrev pub mostRivers : ℕ
+mostRivers = 8
+
 -- "Header: step dt (1 to 3,600 s), segment length dx (10 to 10,000 cm), steps M (1 to 100,000), print interval (1 to M),
 -- flow at the top (0 to 100,000,000 mL/s)."
 abbrev pub headerRanges : ℕ → List Range

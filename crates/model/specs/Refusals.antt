@@ -27,6 +27,11 @@ pub data Finding : Type 0 where
   passes : Finding
   fails : ℕ → Place → Finding
 
+-- it found no fault
+abbrev pub isPassed : Finding → Bool
+isPassed passes = true
+isPassed (fails number place) = false
+
 -- a test "where the list below names none": its place is nothing
 abbrev pub test : ℕ → Bool → Finding
 test number fault = cond fault (fails number nothing) passes

@@ -21,7 +21,7 @@ use calltests::state_test;
 use terms::Finding;
 use terms::Place;
 
-mod entries;
+pub mod entries;
 
 // The state's U and its count of steps done; the three lists of figures are lent.
 pub struct River {

@@ -1,7 +1,7 @@
--- A loop that fills the list of reach records leaves what `filled` says, and this is what document 01 says of a loading.
+-- A loop that fills the list of reach records leaves what `filled` says, and this is what the documents say of a loading and of an opening.
 use mathlib.Core.Path.{_≡_, refl, ap, _∙_}
 use mathlib.Core.Bool.{_||_}
-use mathlib.Core.List.{List, _++_, map}
+use mathlib.Core.List.{List, [], _∷_, _++_, map}
 use Prim.Native.Nat.{ℕ, _+_, _<_, _≤_, min}
 use native.Mathlib.Nat.{zero-min, min-eq-left}
 use native.Mathlib.Omega.{arith}
@@ -13,11 +13,12 @@ use Rattle.lists.proofs.Shorter.{neither}
 use Rattle.lists.proofs.Tab.{length-tab, map-tab}
 use Rattle.lists.proofs.Over.{length-over, map-over, filling-turn}
 use Rattle.model.specs.Sheet.{Reach, reachCount, flowRowCount, reachOn, reaches, segmentCount}
-use Rattle.model.specs.Flow.{courseOf}
-use Rattle.model.specs.Refusals.{Outcome, accepted, refused}
+use Rattle.model.specs.Ranges.{outside, concentration}
+use Rattle.model.specs.Refusals.{Finding, passes, fails, test, first, answer, outcomeOf}
 use Rattle.model.specs.State.{Columns, columnLists}
-use Rattle.model.specs.Load.{Loaded, loaded, sheetTests, courseTests, listTests, loadTests, loadAnswer, loadRecords, recordsAfter}
-use Rattle.model.proofs.Refusals.{first-both, all-pass, test-clear, accepted-passes}
+use Rattle.model.specs.Load.{loaded, riverTests, listTests, loadTests, loadAnswer, loadRecords, recordsAfter}
+use Rattle.model.specs.Pool.{Pool, roomFault, tableFault, sharedFault, openTests, openAnswer, openRecords}
+use Rattle.model.proofs.Refusals.{first-both, all-pass, test-clear}
 use Rattle.terms.specs.Says.{reachSays}
 use Rattle.terms.specs.declared.Reach as Record
 use Rattle.records.specs.Records.{filled, fillCount}
@@ -63,25 +64,37 @@ module _ (sheet : List ℕ) (before : List Record.Reach) where
       map-over reachSays (tab 0 end (λ j. asRecord (reachOn sheet j))) before
       ∙ rw (map-tab reachSays (λ j. asRecord (reachOn sheet j)) 0 end, length-map before reachSays, e)
 
-module _ (sheet : List ℕ) (row records : ℕ) (columns : Columns) where
-  -- an accepted loading has passed test 13: the list has an entry for each reach
-  enough : (v : Loaded) → loadAnswer sheet row records columns ≡ accepted v → reachCount sheet ≤ records
-  unfolding loadAnswer loadTests listTests
-  enough v e =
-      let passed = accepted-passes (loadTests sheet row records columns) (loaded sheet) (rw e tt) in
-      let front = sheetTests sheet ++ courseTests (segmentCount sheet) (flowRowCount sheet) (courseOf sheet) in
-      let last = first-both front (listTests sheet row records columns) passed .1 in
+module _ (sheet : List ℕ) (row : ℕ) (before : List Reach) (columns : Columns) where
+  -- where test 13 passes, the list has an entry for each reach
+  enough : first (listTests sheet row (length before) columns) ≡ passes → reachCount sheet ≤ length before
+  unfolding listTests
+  enough e =
       let others = ltb (flowRowCount sheet) row || anyShorter (segmentCount sheet) (columnLists columns) in
-      let few = ltb records (reachCount sheet) in
-      ltb-false records (reachCount sheet) (neither others few (test-clear 13 (others || few) (all-pass (listTests sheet row records columns) last .0)) .1)
+      let few = ltb (length before) (reachCount sheet) in
+      ltb-false (length before) (reachCount sheet) (neither others few (test-clear 13 (others || few) (all-pass (listTests sheet row (length before) columns) e .0)) .1)
 
--- what a loading fills, by its answer, is what document 01 says
-pub load-records : (sheet : List ℕ) (row : ℕ) (before : List Reach) (columns : Columns) →
-    filled sheet (fillCount (loadAnswer sheet row (length before) columns) (reachCount sheet)) before ≡ loadRecords sheet row before columns
-unfolding filled loadRecords reaches
-load-records sheet row before columns = go (loadAnswer sheet row (length before) columns) refl
-  where
-    go : (o : Outcome Loaded) → loadAnswer sheet row (length before) columns ≡ o →
-        over (tab 0 (min (fillCount o (reachCount sheet)) (length before)) (reachOn sheet)) before ≡ recordsAfter o sheet before
-    go (accepted v) e = rw (min-eq-left (enough sheet row (length before) columns v e))
-    go (refused number place) e = rw (zero-min (length before))
+  -- what is filled by the answer of a call, with test 13 among its tests, is what is said of that answer
+  outcome-fills : (tests : List Finding) → (first tests ≡ passes → first (listTests sheet row (length before) columns) ≡ passes) →
+      filled sheet (fillCount (outcomeOf tests (loaded sheet)) (reachCount sheet)) before ≡ recordsAfter (outcomeOf tests (loaded sheet)) sheet before
+  unfolding filled reaches
+  outcome-fills tests among = go (first tests) refl
+    where
+      go : (t : Finding) → first tests ≡ t →
+          over (tab 0 (min (fillCount (answer t (loaded sheet)) (reachCount sheet)) (length before)) (reachOn sheet)) before ≡ recordsAfter (answer t (loaded sheet)) sheet before
+      go passes e = rw (min-eq-left (enough (among e)))
+      go (fails number place) e = rw (zero-min (length before))
+
+  -- a loading: document 01
+  pub load-records : filled sheet (fillCount (loadAnswer sheet row (length before) columns) (reachCount sheet)) before ≡ loadRecords sheet row before columns
+  unfolding loadRecords loadAnswer loadTests
+  load-records = outcome-fills (loadTests sheet row (length before) columns) (λ e. first-both (riverTests sheet) (listTests sheet row (length before) columns) e .1)
+
+  -- an opening: document 02, 3
+  pub open-records : (pool : Pool) (number u : ℕ) →
+      filled sheet (fillCount (openAnswer sheet row (length before) columns pool number u) (reachCount sheet)) before ≡ openRecords sheet row before columns pool number u
+  unfolding openRecords openAnswer openTests
+  open-records pool number u =
+      let front = riverTests sheet ++ (test 17 (roomFault (pool .table) number (segmentCount sheet)) ∷ test 18 (tableFault (pool .table)) ∷ []) in
+      let lists = listTests sheet row (length before) columns in
+      let behind = test 13 (sharedFault pool) ∷ test 14 (outside concentration u) ∷ [] in
+      outcome-fills (openTests sheet row (length before) columns pool number u) (λ e. first-both front lists (first-both (front ++ lists) behind e .0) .1)

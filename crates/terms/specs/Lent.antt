@@ -1,10 +1,13 @@
--- What a call is lent, gathered as the records of `model`'s definitions. `set`, `columns`, `state` and `working` take a reader of
+-- What a call is lent, gathered as the records of `model`'s definitions. `set`, `columns`, `state`, `working` and `pool` take a reader of
 -- lists/specs/Lent first: when the call begins, when it is over, or plain lists.
 use mathlib.Core.List.{List}
-use Prim.Native.Nat.{ℕ, _≤_}
-use lib.ListN.{length}
+use Prim.Native.Nat.{ℕ, _+_, _*_, _≤_}
+use lib.ListN.{length, getD}
+use Rattle.lists.specs.Lists.{tab}
+use Rattle.model.specs.Ranges.{mostRivers}
 use Rattle.model.specs.State.{NumberSet, Columns, State}
 use Rattle.model.specs.Calls.{Working}
+use Rattle.model.specs.Pool.{Slot, Pool}
 
 -- a set: its ten lists
 abbrev pub set : {A : Type 0} → (A → List ℕ) → (e g l a b k ks h m s : A) → NumberSet
@@ -34,6 +37,25 @@ state at channel storage sediment upstream steps =
 -- the working lists of a step
 abbrev pub working : {A : Type 0} → (A → List ℕ) → (p y : A) → Working
 working at p y = record { p = at p; y = at y }
+
+-- a table is lent as forty numbers, five for each slot: the slot at place i
+abbrev pub slotIn : List ℕ → ℕ → Slot
+slotIn numbers i = record {
+  opened = getD numbers (5 * i) 0;
+  first = getD numbers (5 * i + 1) 0;
+  segments = getD numbers (5 * i + 2) 0;
+  upstream = getD numbers (5 * i + 3) 0;
+  steps = getD numbers (5 * i + 4) 0;
+}
+
+-- its eight slots
+unfoldable pub tableIn : List ℕ → List Slot
+tableIn numbers = tab 0 mostRivers (slotIn numbers)
+
+-- the pool: the three shared lists and the table
+abbrev pub pool : {A : Type 0} → (A → List ℕ) → (channel storage sediment table : A) → Pool
+pool at channel storage sediment table =
+    record { table = tableIn (at table); channel = at channel; storage = at storage; sediment = at sediment }
 
 -- each list of a set has an entry for each of n segments
 pub record LongSet (n : ℕ) (x : NumberSet) : Type 0 where

@@ -9,11 +9,12 @@ ghost use Rattle.model.specs.Sheet.{dt, dx, rowStarts, rowConcentrations, gauge
 ghost use Rattle.model.specs.Ranges.{gaugeSection};
 ghost use Rattle.model.specs.Flow.{flowInForce};
 ghost use Rattle.model.specs.Load.{loadAnswer, loadColumns, loadRecords};
+ghost use Rattle.model.specs.Pool.{poolStartAnswer, poolStart, poolStepAnswer, poolStep, poolStepWorking, poolReportAnswer, closeFinding, closedTable, openAnswer, openColumns, openRecords, poolOpen};
 ghost use Rattle.model.specs.Calls.{startAnswer, startState, stepAnswer, stepState, stepWorking, reportAnswer};
 ghost use Rattle.model.specs.Upstream.{upstreamAnswer};
 ghost use Rattle.terms.specs.Says.{reachSays};
 ghost use Rattle.lists.specs.Lent.{entry, exit};
-ghost use Rattle.terms.specs.Lent.{set, columns, state, working};
+ghost use Rattle.terms.specs.Lent.{set, columns, state, working, tableIn, pool};
 ghost use Rattle.sheet.specs.Rows.{rowListTest, rowListAfter};
 ghost use Rattle.otis.specs.Outcomes.{handed};
 ghost use Rattle.answers.specs.Answers.{foundBy, Told, loadedValues};
@@ -23,6 +24,8 @@ use answers::put_report;
 use answers::put_start;
 use answers::put_step;
 use answers::put_upstream;
+use answers::start_finding;
+use answers::step_finding;
 use otis::River;
 use terms::Reach;
 
@@ -79,6 +82,76 @@ pub extern "C" fn yumbaqel_load(
         cb,
         kd,
         start,
+    );
+    put_load(answer, number, kind, place, loaded);
+}
+
+// An opening of river `river`, 1 to 8, in a pool: tests 1 to 12 with 16 among them, 17, 18 of the table, 13 and 14 of `u`, which is U at step 0. `loaded` is a loading's.
+#[no_mangle]
+pub extern "C" fn yumbaqel_pool_open(
+    number: &mut u32,
+    kind: &mut u32,
+    place: &mut u32,
+    loaded: &mut [u32; 9],
+    river: u32,
+    sheet: &[u8],
+    row: u32,
+    reaches: &mut [Reach],
+    e: &mut [u32],
+    g: &mut [u32],
+    l: &mut [u32],
+    a: &mut [u32],
+    b: &mut [u32],
+    k: &mut [u32],
+    ks: &mut [u32],
+    h: &mut [u32],
+    m: &mut [u32],
+    s: &mut [u32],
+    cl: &mut [u32],
+    cb: &mut [u32],
+    kd: &mut [u32],
+    start: &mut [u32],
+    channel: &mut [u32],
+    storage: &mut [u32],
+    sediment: &mut [u32],
+    table: &mut [u32; 40],
+    u: u32,
+)
+    ensures answer { λ _. ⌜ Told (foundBy (openAnswer (entry sheet) row (length (entry reaches))
+        (columns entry e g l a b k ks h m s cl cb kd start) (pool entry channel storage sediment table) river u)) (exit number) (exit kind) (exit place) ⌝ }
+    ensures values { λ _. ⌜ exit loaded ≡ handed (openAnswer (entry sheet) row (length (entry reaches))
+        (columns entry e g l a b k ks h m s cl cb kd start) (pool entry channel storage sediment table) river u) loadedValues (entry loaded) ⌝ }
+    ensures lists { λ _. ⌜ columns exit e g l a b k ks h m s cl cb kd start ≡ openColumns (entry sheet) row (length (entry reaches))
+        (columns entry e g l a b k ks h m s cl cb kd start) (pool entry channel storage sediment table) river u ⌝ }
+    ensures pool { λ _. ⌜ pool exit channel storage sediment table ≡ poolOpen (entry sheet) row (length (entry reaches))
+        (columns entry e g l a b k ks h m s cl cb kd start) (pool entry channel storage sediment table) river u ⌝ }
+    ensures records { λ _. ⌜ map reachSays (exit reaches) ≡ openRecords (entry sheet) row (map reachSays (entry reaches))
+        (columns entry e g l a b k ks h m s cl cb kd start) (pool entry channel storage sediment table) river u ⌝ }
+{
+    let answer = opening::open(
+        river,
+        sheet,
+        row,
+        reaches,
+        e,
+        g,
+        l,
+        a,
+        b,
+        k,
+        ks,
+        h,
+        m,
+        s,
+        cl,
+        cb,
+        kd,
+        start,
+        channel,
+        storage,
+        sediment,
+        table,
+        u,
     );
     put_load(answer, number, kind, place, loaded);
 }
@@ -299,6 +372,228 @@ pub extern "C" fn yumbaqel_report(
     put_report(answer, number, kind, place, c, z, kdw);
 }
 
+// A start of the river that is open under this number: tests 18, 13 and 14. U and the count of steps done stand in its slot of the table.
+#[no_mangle]
+pub extern "C" fn yumbaqel_pool_start(
+    number: &mut u32,
+    kind: &mut u32,
+    place: &mut u32,
+    river: u32,
+    e: &[u32],
+    g: &[u32],
+    l: &[u32],
+    a: &[u32],
+    b: &[u32],
+    k: &[u32],
+    ks: &[u32],
+    h: &[u32],
+    m: &[u32],
+    s: &[u32],
+    cl: &[u32],
+    cb: &[u32],
+    kd: &[u32],
+    start: &[u32],
+    channel: &mut [u32],
+    storage: &mut [u32],
+    sediment: &mut [u32],
+    table: &mut [u32; 40],
+    u: u32,
+)
+    ensures answer { λ _. ⌜ Told (foundBy (poolStartAnswer (pool entry channel storage sediment table) river (columns entry e g l a b k ks h m s cl cb kd start) u))
+        (exit number) (exit kind) (exit place) ⌝ }
+    ensures pool { λ _. ⌜ pool exit channel storage sediment table ≡ poolStart (pool entry channel storage sediment table) river
+        (columns entry e g l a b k ks h m s cl cb kd start) u ⌝ }
+{
+    let answer = pool::start(
+        river,
+        e,
+        g,
+        l,
+        a,
+        b,
+        k,
+        ks,
+        h,
+        m,
+        s,
+        cl,
+        cb,
+        kd,
+        start,
+        channel,
+        storage,
+        sediment,
+        table,
+        u,
+    );
+    put_finding(start_finding(answer), number, kind, place);
+}
+
+// A step of it: tests 18, 13, 14 and 15. The sets, `u`, `steps`, p and y are as in `yumbaqel_step`.
+#[no_mangle]
+pub extern "C" fn yumbaqel_pool_step(
+    number: &mut u32,
+    kind: &mut u32,
+    place: &mut u32,
+    river: u32,
+    e0: &[u32],
+    g0: &[u32],
+    l0: &[u32],
+    a0: &[u32],
+    b0: &[u32],
+    k0: &[u32],
+    ks0: &[u32],
+    h0: &[u32],
+    m0: &[u32],
+    s0: &[u32],
+    e: &[u32],
+    g: &[u32],
+    l: &[u32],
+    a: &[u32],
+    b: &[u32],
+    k: &[u32],
+    ks: &[u32],
+    h: &[u32],
+    m: &[u32],
+    s: &[u32],
+    cl: &[u32],
+    cb: &[u32],
+    kd: &[u32],
+    start: &[u32],
+    channel: &mut [u32],
+    storage: &mut [u32],
+    sediment: &mut [u32],
+    table: &mut [u32; 40],
+    p: &mut [u64],
+    y: &mut [u64],
+    u: u32,
+    steps: u32,
+)
+    ensures answer { λ _. ⌜ Told (foundBy (poolStepAnswer (pool entry channel storage sediment table) river (set entry e0 g0 l0 a0 b0 k0 ks0 h0 m0 s0)
+        (columns entry e g l a b k ks h m s cl cb kd start) (working entry p y) u steps)) (exit number) (exit kind) (exit place) ⌝ }
+    ensures pool { λ _. ⌜ pool exit channel storage sediment table ≡ poolStep (pool entry channel storage sediment table) river
+        (set entry e0 g0 l0 a0 b0 k0 ks0 h0 m0 s0) (columns entry e g l a b k ks h m s cl cb kd start) (working entry p y) u steps ⌝ }
+    ensures working { λ _. ⌜ working exit p y ≡ poolStepWorking (pool entry channel storage sediment table) river
+        (set entry e0 g0 l0 a0 b0 k0 ks0 h0 m0 s0) (columns entry e g l a b k ks h m s cl cb kd start) (working entry p y) u steps ⌝ }
+{
+    let answer = pool::step(
+        river,
+        e0,
+        g0,
+        l0,
+        a0,
+        b0,
+        k0,
+        ks0,
+        h0,
+        m0,
+        s0,
+        e,
+        g,
+        l,
+        a,
+        b,
+        k,
+        ks,
+        h,
+        m,
+        s,
+        cl,
+        cb,
+        kd,
+        start,
+        channel,
+        storage,
+        sediment,
+        table,
+        p,
+        y,
+        u,
+        steps,
+    );
+    put_finding(step_finding(answer), number, kind, place);
+}
+
+// A report of a segment of it, which counts from 1: tests 18, 13 and 14. `c`, `z` and `kdw` are C, Z and Kd × W.
+#[no_mangle]
+pub extern "C" fn yumbaqel_pool_report(
+    number: &mut u32,
+    kind: &mut u32,
+    place: &mut u32,
+    c: &mut u32,
+    z: &mut u32,
+    kdw: &mut u64,
+    river: u32,
+    e: &[u32],
+    g: &[u32],
+    l: &[u32],
+    a: &[u32],
+    b: &[u32],
+    k: &[u32],
+    ks: &[u32],
+    h: &[u32],
+    m: &[u32],
+    s: &[u32],
+    cl: &[u32],
+    cb: &[u32],
+    kd: &[u32],
+    start: &[u32],
+    channel: &[u32],
+    storage: &[u32],
+    sediment: &[u32],
+    table: &[u32; 40],
+    segment: u32,
+)
+    ensures answer { λ _. ⌜ Told (foundBy (poolReportAnswer (pool entry channel storage sediment table) river
+        (columns entry e g l a b k ks h m s cl cb kd start) segment)) (exit number) (exit kind) (exit place) ⌝ }
+    ensures c { λ _. ⌜ exit c ≡ handed (poolReportAnswer (pool entry channel storage sediment table) river
+        (columns entry e g l a b k ks h m s cl cb kd start) segment) (λ v. v .channel) (entry c) ⌝ }
+    ensures z { λ _. ⌜ exit z ≡ handed (poolReportAnswer (pool entry channel storage sediment table) river
+        (columns entry e g l a b k ks h m s cl cb kd start) segment) (λ v. v .storage) (entry z) ⌝ }
+    ensures kdw { λ _. ⌜ exit kdw ≡ handed (poolReportAnswer (pool entry channel storage sediment table) river
+        (columns entry e g l a b k ks h m s cl cb kd start) segment) (λ v. v .sediment) (entry kdw) ⌝ }
+{
+    let answer = pool::report(
+        river,
+        e,
+        g,
+        l,
+        a,
+        b,
+        k,
+        ks,
+        h,
+        m,
+        s,
+        cl,
+        cb,
+        kd,
+        start,
+        channel,
+        storage,
+        sediment,
+        table,
+        segment,
+    );
+    put_report(answer, number, kind, place, c, z, kdw);
+}
+
+// A closing of it: test 18 alone. Its slot is free again, and so are its segments.
+#[no_mangle]
+pub extern "C" fn yumbaqel_pool_close(
+    number: &mut u32,
+    kind: &mut u32,
+    place: &mut u32,
+    river: u32,
+    table: &mut [u32; 40],
+)
+    ensures answer { λ _. ⌜ Told (closeFinding (tableIn (entry table)) river) (exit number) (exit kind) (exit place) ⌝ }
+    ensures table { λ _. ⌜ tableIn (exit table) ≡ closedTable (tableIn (entry table)) river ⌝ }
+{
+    let found = pool::close(river, table);
+    put_finding(found, number, kind, place);
+}
+
 // U at step j of the rows, for M steps: tests 3 and 8.
 #[no_mangle]
 pub extern "C" fn yumbaqel_upstream(
@@ -371,10 +666,10 @@ pub extern "C" fn yumbaqel_dx(sheet: &[u8]) -> u32
     sheet::fields::dx(sheet)
 }
 
-// The version of this interface, 2.1.0: the first number times 10,000, the second times 100 and the third.
+// The version of this interface, 2.2.0: the first number times 10,000, the second times 100 and the third.
 #[no_mangle]
 pub extern "C" fn yumbaqel_version() -> u32
-    ensures { λ r. ⌜ r ≡ 20100 ⌝ }
+    ensures { λ r. ⌜ r ≡ 20200 ⌝ }
 {
-    20100
+    20200
 }

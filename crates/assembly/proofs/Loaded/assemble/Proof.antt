@@ -1,13 +1,14 @@
 -- `Loaded::assemble` meets its contract. Assumes nothing.
 use mathlib.Core.Path.{_≡_, sym, ap, _∙_}
-use borrow.Author.Needs.{needs}
+use mathlib.Core.List.{_∷_}
 use Rattle.model.specs.State.{Columns}
-use Rattle.model.specs.Load.{loadTests}
-use Rattle.model.specs.Refusals.{passes, first, accepted}
+use Rattle.model.specs.Load.{listTests, loadTests}
+use Rattle.model.specs.Refusals.{first}
 use Rattle.terms.specs.Says.{findingSays}
 use Rattle.lists.specs.Lent.{plain}
 use Rattle.terms.specs.Lent.{columns}
-use Rattle.assembly.proofs.LoadTests.{ready, answer-accepted, lists-accepted, answer-refused, lists-refused}
+use Rattle.assembly.proofs.LoadTests.{fit-both, load-tests, load-answer, load-columns}
+use borrow.Author.Needs.{needs}
 use Rattle.assembly.proofs.Loaded.assemble.Statement.{statement}
 use Rattle.assembly.proofs.Loaded.assemble.Tie as tie
 
@@ -30,38 +31,27 @@ lent c =
     (c .args .kd .now)
     (c .args .start .now)
 
--- all tests pass
-passed : (c : tie.After-enum-told) → let s = c .before .before .before .before .before .before .before .before .before .before .before .before .before .before .before .before .before .before .before .before .before .before .before .before .before .before .before .before .before .before .before .before in first (loadTests (s .args .sheet .now) (s .args .row) (s .args .records) (lent s)) ≡ passes
-passed c = sym (c .before .before .load-test .ensures) ∙ ap findingSays (c .enum-told .given .1)
+-- what its tests find
+found : (c : tie.After-list-test) → let s = c .before .before .before .before .before .before .before .before .before .before .before .before .before .before .before .before .before .before .before .before .before .before .before .before .before .before .before .before .before .before .before in findingSays (c .list-test .result) ≡ first (loadTests (s .args .sheet .now) (s .args .row) (s .args .records) (lent s))
+found c =
+    let s = c .before .before .before .before .before .before .before .before .before .before .before .before .before .before .before .before .before .before .before .before .before .before .before .before .before .before .before .before .before .before .before in
+    c .list-test .ensures
+    ∙ ap (λ f. first (f ∷ listTests (s .args .sheet .now) (s .args .row) (s .args .records) (lent s))) (c .before .before .before .before .before .before .before .before .before .before .before .before .before .before .before .river-test .ensures)
+    ∙ load-tests (s .args .sheet .now) (s .args .row) (s .args .records) (lent s)
 
-read-requires : tie.Need-read-requires
-read-requires c κs = ready _ _ _ _ (passed (c .before)) _ (c .segment-count .ensures) .read
-
-fill-requires : tie.Need-fill-requires
-fill-requires c κs =
-    let r = ready _ _ _ _ (passed (c .before .before .before .before .before .before .before .before .before .before .before .before .before .before .before .before)) _ (c .before .before .before .before .before .before .before .before .before .before .before .before .before .before .before .segment-count .ensures) in
-    (r .read, r .clear, r .long)
+write-requires : tie.Need-write-requires
+write-requires c κs = λ e. fit-both _ _ _ _ (sym (found (c .before .before .before .before .before .before .before .before .before .before .before .before .before .before)) ∙ e)
 
 returns : tie.Need-returns
 returns c =
-    let e = passed (c .before .before .before .before .before .before .before .before .before .before .before .before .before .before .before .before .before .before .before .before .before .before .before .before .before .before .before .before .before .before .before .before .before .before .before .before .before .before .before .before .before .before .before .before .before) in
-    (ap accepted (c .before .before .before .before .before .before .before .before .before .before .before .before .before .before .before .before .before .before .before .before .before .before .before .before .before .before .before .before .before .before .before .before .before .before .before .before .before .before .before .before .before .before .before .read .ensures) ∙ answer-accepted _ _ _ _ e, c .before .before .before .before .before .before .before .before .before .before .before .before .before .before .before .before .before .before .before .before .before .before .before .before .before .before .before .before .fill .ensures ∙ lists-accepted _ _ _ _ e)
-
-returns-2 : tie.Need-returns-2
-returns-2 c =
-    let e = sym (c .before .before .before .load-test .ensures) ∙ ap findingSays (c .before .found .given .1) in
-    (answer-refused _ _ _ (lent (c .before .before .before .before .before .before .before .before .before .before .before .before .before .before .before .before .before .before .before .before .before .before .before .before .before .before .before .before .before .before .before .before .before)) e, lists-refused _ _ _ (lent (c .before .before .before .before .before .before .before .before .before .before .before .before .before .before .before .before .before .before .before .before .before .before .before .before .before .before .before .before .before .before .before .before .before)) e)
+    let s = c .before .before .before .before .before .before .before .before .before .before .before .before .before .before .before .before .before .before .before .before .before .before .before .before .before .before .before .before .before .before .before .before .before .before .before .before .before .before .before .before .before .before .before .before .before .before .before .before .before .before .before .before .before .before .before .before .before .before .before .before .before .before .before .before .before .before .before .before .before .before .before .before .before .before in
+    let f = found (c .before .before .before .before .before .before .before .before .before .before .before .before .before .before .before .before .before .before .before .before .before .before .before .before .before .before .before .before .before .before .before .before .before .before .before .before .before .before .before .before .before .before .before) in
+    (c .before .before .before .before .before .before .before .before .before .before .before .before .before .before .before .before .before .before .before .before .before .before .before .before .before .before .before .before .write .ensures .0 ∙ load-answer _ _ _ (lent s) _ f, c .before .before .before .before .before .before .before .before .before .before .before .before .before .before .before .before .before .before .before .before .before .before .before .before .before .before .before .before .write .ensures .1 ∙ load-columns _ _ _ (lent s) _ f)
 
 pub assemble-spec : {M : Type 1} → statement M
 assemble-spec =
     tie.close
-    (tie.spec
-    (λ c κs. search needs)
-    (λ c. search needs)
-    (λ c κs. search needs)
-    read-requires
-    fill-requires
-    (λ c. search needs)
+    (tie.spec (λ c κs. search needs) (λ c κs. search needs) write-requires
     (λ c. c .before .before .before .before .before .before .before .before .before .before .before .before .before .before .before .before .before .before .before .before .before .before .before .before .before .before .before .e .given)
     (λ c. c .before .before .before .before .before .before .before .before .before .before .before .before .before .before .before .before .before .before .before .before .before .before .before .before .before .g .given)
     (λ c. c .before .before .before .before .before .before .before .before .before .before .before .before .before .before .before .before .before .before .before .before .before .before .before .l .given)
@@ -76,19 +66,4 @@ assemble-spec =
     (λ c. c .before .before .before .before .before .cb .given)
     (λ c. c .before .before .before .kd .given)
     (λ c. c .before .start .given)
-    returns
-    (λ c. search needs)
-    (λ c. search needs)
-    (λ c. search needs)
-    (λ c. search needs)
-    (λ c. search needs)
-    (λ c. search needs)
-    (λ c. search needs)
-    (λ c. search needs)
-    (λ c. search needs)
-    (λ c. search needs)
-    (λ c. search needs)
-    (λ c. search needs)
-    (λ c. search needs)
-    (λ c. search needs)
-    returns-2)
+    returns)

@@ -1,0 +1,13 @@
+-- `step_finding` meets its contract.
+use borrow.Author.Needs.{needs}
+use Rattle.answers.proofs.step_finding.Statement.{statement}
+use Rattle.answers.proofs.step_finding.Tie as tie
+
+returns : tie.Need-returns
+returns c = rw (c .enum-told .given .1)
+
+returns-2 : tie.Need-returns-2
+returns-2 c = rw (c .before .answer .given .1)
+
+pub step-finding-spec : {M : Type 1} → statement M
+step-finding-spec = tie.close (tie.spec (λ c. search needs) (λ c. search needs) returns returns-2)

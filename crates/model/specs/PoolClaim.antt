@@ -1,0 +1,87 @@
+-- Document 02, 3, what is promised of several rivers, as one claim: "Begun with none open, each call lent what the last one left, an open
+-- river shows the figures its accepted calls alone would give, whatever is opened, started, stepped, closed or refused beside it, and demand 3
+-- holds of each for its own calls, though others' calls between may move its stretch; only the two new refusals may depend on the others."
+use mathlib.Core.Path.{_≡_}
+use mathlib.Core.Bool.{true, false}
+use mathlib.Core.List.{List}
+use mathlib.Core.Logic.{_⊎_}
+use mathlib.Core.Option.{Option, none, some}
+use Prim.Native.Nat.{ℕ, _≤_, _<_}
+use lib.ListN.{length}
+use Rattle.lists.specs.Lists.{tab}
+use Rattle.model.specs.Ranges.{mostRivers}
+use Rattle.model.specs.State.{NumberSet, Columns, State}
+use Rattle.model.specs.Refusals.{nothing, refused, passes, fails}
+use Rattle.model.specs.Calls.{Working, startAnswer, stepAnswer, stepWorking, reportAnswer}
+use Rattle.model.specs.Runs.{start, after, run, Fed}
+use Rattle.model.specs.Claim.{Holds}
+use Rattle.model.specs.Pool.{isOpen, vacant, slotAt, slotOf, Pool, stateOf, openAnswer, poolStartAnswer, poolStepAnswer, poolStepWorking, poolReportAnswer, closeFinding}
+use Rattle.model.specs.PoolRuns.{PoolCall, runPool, Own, ownCalls, ownSince}
+
+-- "Begun with none open": a table of eight slots, none of them open, and lists of any length and content
+pub record NoneOpen (pool : Pool) : Type 0 where
+  pub slots : length (pool .table) ≡ mostRivers
+  pub closed : (i : ℕ) → i < mostRivers → isOpen (slotAt (pool .table) i) ≡ false
+
+-- the lists of a river that has them alone: n entries each, of any content
+pub record OwnLists (n : ℕ) (state : State) : Type 0 where
+  pub channel : length (state .channel) ≡ n
+  pub storage : length (state .storage) ≡ n
+  pub sediment : length (state .sediment) ≡ n
+
+-- the pool with no river open
+abbrev pub vacated : Pool → Pool
+vacated pool =
+    record { table = tab 0 mostRivers (λ i. vacant); channel = pool .channel; storage = pool .storage; sediment = pool .sediment }
+
+-- "only the two new refusals may depend on the others": an opening under this number is refused with 17, or gets the answer that it would get
+-- with no river open; 18, which looks at the table, does not come up in such a list
+abbrev pub OpensAlone : Pool → (number : ℕ) → Type 0
+OpensAlone pool number =
+    (sheet : List ℕ) (r records : ℕ) (columns : Columns) (u : ℕ) →
+    (openAnswer sheet r records columns pool number u ≡ refused 17 nothing)
+    ⊎ (openAnswer sheet r records columns pool number u ≡ openAnswer sheet r records columns (vacated pool) number u)
+
+-- a river that is not open: its other calls are refused with 18
+pub record NotOpen (pool : Pool) (number : ℕ) : Type 0 where
+  pub closed : 1 ≤ number → number ≤ mostRivers → isOpen (slotOf (pool .table) number) ≡ false
+  pub starts : (columns : Columns) (u : ℕ) → poolStartAnswer pool number columns u ≡ refused 18 nothing
+  pub steps : (old : NumberSet) (new : Columns) (working : Working) (u′ M : ℕ) →
+      poolStepAnswer pool number old new working u′ M ≡ refused 18 nothing
+  pub reports : (columns : Columns) (segment : ℕ) → poolReportAnswer pool number columns segment ≡ refused 18 nothing
+  pub closes : closeFinding (pool .table) number ≡ fails 18 nothing
+
+-- an open river with these own calls, beside the same calls made alone, from lists of any content
+pub record AsAlone (pool : Pool) (number : ℕ) (own : Own) (before : State) : Type 0 where
+  -- "an open river shows the figures its accepted calls alone would give", with U and the count of steps done
+  pub figures : stateOf pool number ≡ run before (ownCalls own)
+  -- its calls get the answers that they would get alone, and a step leaves its working lists as it would
+  pub starts : (columns : Columns) (u : ℕ) → poolStartAnswer pool number columns u ≡ startAnswer (own .lent .count) columns (run before (ownCalls own)) u
+  pub steps : (old : NumberSet) (new : Columns) (working : Working) (u′ M : ℕ) →
+      poolStepAnswer pool number old new working u′ M ≡ stepAnswer (own .lent .count) old new (run before (ownCalls own)) working u′ M
+  pub works : (old : NumberSet) (new : Columns) (working : Working) (u′ M : ℕ) →
+      poolStepWorking pool number old new working u′ M ≡ stepWorking (own .lent .count) old new (run before (ownCalls own)) working u′ M
+  pub reports : (columns : Columns) (segment : ℕ) →
+      poolReportAnswer pool number columns segment ≡ reportAnswer (own .lent .count) columns (run before (ownCalls own)) segment
+  -- "demand 3 holds of each for its own calls", where each accepted call since the opening is lent what a loading of the sheet gives for it
+  pub demand3 : Fed (own .sheet) (after before (start (own .lent) (own .u))) (own .since) → Holds (own .sheet) before (ownCalls own)
+
+-- an open river
+pub record Opened (pool : Pool) (number : ℕ) (own : Own) : Type 0 where
+  pub from : 1 ≤ number
+  pub to : number ≤ mostRivers
+  pub opened : isOpen (slotOf (pool .table) number) ≡ true
+  pub segments : slotOf (pool .table) number .segments ≡ own .lent .count
+  pub closes : closeFinding (pool .table) number ≡ passes
+  pub alone : (before : State) → OwnLists (own .lent .count) before → AsAlone pool number own before
+
+-- the river with this number, by its own calls
+abbrev pub Shown : Pool → (number : ℕ) → Option Own → Type 0
+Shown pool number none = NotOpen pool number
+Shown pool number (some own) = Opened pool number own
+
+-- the claim: after every list of calls, of every number
+abbrev pub Sharing : Type 0
+Sharing =
+    (before : Pool) → NoneOpen before → (calls : List PoolCall) (number : ℕ) →
+    Shown (runPool before calls) number (ownSince number before calls none) × OpensAlone (runPool before calls) number

@@ -1,0 +1,184 @@
+-- A call on an open river's stretch of the shared lists, from document 01's call on the parts that it was lent.
+use mathlib.Core.Path.{_≡_, refl, sym, ap, _∙_}
+use mathlib.Core.List.{List, _++_}
+use Prim.Native.Nat.{ℕ, _+_, _-_, _<_, _≤_}
+use native.Mathlib.Omega.{arith}
+use lib.ListN.{length, take, drop}
+use Rattle.lists.specs.Lent.{plain}
+use Rattle.lists.proofs.Stretch.{splice-back, splice-self}
+use Rattle.model.specs.Ranges.{mostSegments, mostRivers}
+use Rattle.model.specs.State.{NumberSet, Columns, State}
+use Rattle.model.specs.Refusals.{Place, Outcome, accepted, refused, passes, fails, first}
+use Rattle.model.specs.Calls.{River, Working, startTests, startAnswer, startState, stepTests, stepAnswer, stepState, reportTests, reportAnswer}
+use Rattle.model.specs.Pool.{Slot, endOf, slotOf, Pool, stateOf, poolTests, poolAfter, poolStartTests, poolStartAnswer, poolStart}
+use Rattle.model.specs.Pool.{poolStepTests, poolStepAnswer, poolStep, poolStepWorking, poolReportTests, poolReportAnswer}
+use Rattle.model.proofs.Refusals.{first-front}
+use Rattle.stretches.proofs.Answers.{tests-clear, start-alone, step-alone, works-alone, report-alone}
+use Rattle.stretches.proofs.Pools.{shared-long}
+use Rattle.stretches.proofs.Tables.{number-clear, fault-apart}
+use Rattle.terms.specs.Lent.{state}
+use Rattle.otis.specs.declared.Start.{Start}
+use Rattle.otis.specs.declared.Step.{Step}
+use Rattle.otis.specs.Says.{startSays, stepSays}
+use Rattle.otis.specs.Outcomes.{stateAfter, StartOutcome, StepOutcome}
+use Rattle.pool.specs.Left.{tableAfter}
+
+-- where the pool's own tests pass: the number's place, and a stretch that every shared list has
+pub record Stands (p : Pool) (number : ℕ) (x : Slot) : Type 0 where
+  pub from : 1 ≤ number
+  pub place : number - 1 < mostRivers
+  pub ends : endOf x ≤ mostSegments
+  pub channel : mostSegments ≤ length (p .channel)
+  pub storage : mostSegments ≤ length (p .storage)
+  pub sediment : mostSegments ≤ length (p .sediment)
+
+pub stands : (p : Pool) (number : ℕ) (x : Slot) → x ≡ slotOf (p .table) number → first (poolTests p number) ≡ passes → Stands p number x
+stands p number x e pass =
+    let clear = tests-clear p number pass in
+    let n = number-clear (p .table) number (clear .0) in
+    let long = shared-long p (clear .1) in
+    let place : number - 1 < mostRivers = omega (arith, n .0, n .1) in
+    record {
+      from = n .0;
+      place = place;
+      ends = rw e (fault-apart (p .table) (n .3) .ends (number - 1) place (n .2));
+      channel = long .channel;
+      storage = long .storage;
+      sediment = long .sediment;
+    }
+
+-- a shared list when the part from `first` to first + n comes back
+abbrev pub back : (first n : ℕ) → (part list : List ℕ) → List ℕ
+back first n part list = take first list ++ (part ++ drop (first + n - first) (drop first list))
+
+-- the parts that a call on the river in slot x is lent
+abbrev pub parts : Slot → (channel storage sediment : List ℕ) → (upstream steps : ℕ) → State
+parts x = state (λ l. take (x .first + x .segments - x .first) (drop (x .first) l))
+
+-- they are the river's state
+parts-are : (p : Pool) (number : ℕ) (x : Slot) → x ≡ slotOf (p .table) number →
+    parts x (p .channel) (p .storage) (p .sediment) (x .upstream) (x .steps) ≡ stateOf p number
+parts-are p number x e = let q : x .first + x .segments - x .first ≡ x .segments = omega arith in rw (q, e)
+
+-- the pool when they come back as c, z and w
+abbrev pub returned : Pool → Slot → (table : List Slot) → (c z w : List ℕ) → Pool
+returned p x table c z w = record {
+  table = table;
+  channel = back (x .first) (x .segments) c (p .channel);
+  storage = back (x .first) (x .segments) z (p .storage);
+  sediment = back (x .first) (x .segments) w (p .sediment);
+}
+
+module _ (p : Pool) (number : ℕ) (x : Slot) (e : x ≡ slotOf (p .table) number) where
+  -- as it was where they come back as they were lent
+  unmoved : (c z w : List ℕ) (upstream steps : ℕ) → state plain c z w upstream steps ≡ stateOf p number → returned p x (p .table) c z w ≡ p
+  unmoved c z w upstream steps same =
+      rw (
+        splice-back (x .first) (x .segments) c (p .channel),
+        splice-back (x .first) (x .segments) z (p .storage),
+        splice-back (x .first) (x .segments) w (p .sediment),
+        ap (λ (s : State). s .channel) same,
+        ap (λ (s : State). s .storage) same,
+        ap (λ (s : State). s .sediment) same,
+        e,
+        splice-self (slotOf (p .table) number .first) (slotOf (p .table) number .segments) (p .channel),
+        splice-self (slotOf (p .table) number .first) (slotOf (p .table) number .segments) (p .storage),
+        splice-self (slotOf (p .table) number .first) (slotOf (p .table) number .segments) (p .sediment),
+      )
+
+  -- the pool after an answer, with the lists and the table that the answer left
+  pub written : (a : Outcome River) (c z w : List ℕ) (table : List Slot) → table ≡ tableAfter a (p .table) (number - 1) x →
+      ((k : ℕ) (place : Place) → a ≡ refused k place → stateAfter plain c z w a (x .upstream) (x .steps) ≡ stateOf p number) →
+      returned p x table c z w ≡ poolAfter a p number (stateAfter plain c z w a (x .upstream) (x .steps))
+  written (accepted v) c z w table t same =
+      rw (
+        splice-back (x .first) (x .segments) c (p .channel),
+        splice-back (x .first) (x .segments) z (p .storage),
+        splice-back (x .first) (x .segments) w (p .sediment),
+        t,
+        e,
+      )
+  written (refused k place) c z w table t same = rw t (unmoved c z w (x .upstream) (x .steps) (same k place refl))
+
+-- ---- a start
+
+start-refused : (n : ℕ) (cols : Columns) (s : State) (u : ℕ) {k : ℕ} {place : Place} → startAnswer n cols s u ≡ refused k place → startState n cols s u ≡ s
+unfolding startState
+start-refused n cols s u e = rw e
+
+module _ (p : Pool) (number : ℕ) (x : Slot) (e : x ≡ slotOf (p .table) number) (pass : first (poolTests p number) ≡ passes) (cols : Columns) (u : ℕ)
+    (r : Start) (c z w : List ℕ)
+    (o : (upstream steps : ℕ) → StartOutcome (x .segments) cols (parts x (p .channel) (p .storage) (p .sediment) upstream steps) u r (stateAfter plain c z w (startSays r) upstream steps)) where
+  begun : StartOutcome (slotOf (p .table) number .segments) cols (stateOf p number) u r (stateAfter plain c z w (startSays r) (x .upstream) (x .steps))
+  begun = rw (parts-are p number x e, ap (λ (y : Slot). y .segments) e) at (o (x .upstream) (x .steps))
+
+  pub start-answer : startSays r ≡ poolStartAnswer p number cols u
+  start-answer = begun .answer ∙ sym (start-alone p number pass cols u)
+
+  pub start-pool : (table : List Slot) → table ≡ tableAfter (startSays r) (p .table) (number - 1) x → returned p x table c z w ≡ poolStart p number cols u
+  unfolding poolStart
+  start-pool table t =
+      written p number x e (startSays r) c z w table t
+      (λ k place q. begun .state ∙ start-refused _ cols (stateOf p number) u (sym (begun .answer) ∙ q))
+      ∙ rw (begun .state, start-answer)
+
+-- ---- a step
+
+step-refused : (n : ℕ) (old : NumberSet) (new : Columns) (s : State) (working : Working) (u′ M : ℕ) {k : ℕ} {place : Place} →
+    stepAnswer n old new s working u′ M ≡ refused k place → stepState n old new s working u′ M ≡ s
+unfolding stepState
+step-refused n old new s working u′ M e = rw e
+
+module _ (p : Pool) (number : ℕ) (x : Slot) (e : x ≡ slotOf (p .table) number) (pass : first (poolTests p number) ≡ passes)
+    (old : NumberSet) (new : Columns) (lent : Working) (u′ M : ℕ) (r : Step) (c z w : List ℕ) (left : Working)
+    (o : StepOutcome (x .segments) old new (parts x (p .channel) (p .storage) (p .sediment) (x .upstream) (x .steps)) lent u′ M r (stateAfter plain c z w (stepSays r) (x .upstream) (x .steps)) left) where
+  stepped : StepOutcome (slotOf (p .table) number .segments) old new (stateOf p number) lent u′ M r (stateAfter plain c z w (stepSays r) (x .upstream) (x .steps)) left
+  stepped = rw (parts-are p number x e, ap (λ (y : Slot). y .segments) e) at o
+
+  pub step-answer : stepSays r ≡ poolStepAnswer p number old new lent u′ M
+  step-answer = stepped .answer ∙ sym (step-alone p number pass old new lent u′ M)
+
+  pub step-pool : (table : List Slot) → table ≡ tableAfter (stepSays r) (p .table) (number - 1) x → returned p x table c z w ≡ poolStep p number old new lent u′ M
+  unfolding poolStep
+  step-pool table t =
+      written p number x e (stepSays r) c z w table t
+      (λ k place q. stepped .state ∙ step-refused _ old new (stateOf p number) lent u′ M (sym (stepped .answer) ∙ q))
+      ∙ rw (stepped .state, step-answer)
+
+  pub step-working : left ≡ poolStepWorking p number old new lent u′ M
+  step-working = stepped .working ∙ sym (works-alone p number pass old new lent u′ M)
+
+-- ---- a report
+
+pub report-answer : (p : Pool) (number : ℕ) (x : Slot) → x ≡ slotOf (p .table) number → first (poolTests p number) ≡ passes → (cols : Columns) (segment : ℕ) →
+    reportAnswer (x .segments) cols (parts x (p .channel) (p .storage) (p .sediment) (x .upstream) (x .steps)) segment ≡ poolReportAnswer p number cols segment
+report-answer p number x e pass cols segment =
+    rw (parts-are p number x e, ap (λ (y : Slot). y .segments) e) (sym (report-alone p number pass cols segment))
+
+-- ---- refused by the pool's own tests
+
+module _ (p : Pool) (number : ℕ) {k : ℕ} {place : Place} (fault : first (poolTests p number) ≡ fails k place) where
+  pub no-start : (cols : Columns) (u : ℕ) → poolStartAnswer p number cols u ≡ refused k place
+  unfolding poolStartAnswer poolStartTests
+  no-start cols u = rw (first-front (poolTests p number) (startTests (slotOf (p .table) number .segments) cols (stateOf p number) u) fault)
+
+  pub no-started : (cols : Columns) (u : ℕ) → poolStart p number cols u ≡ p
+  unfolding poolStart
+  no-started cols u = rw (no-start cols u)
+
+  module _ (old : NumberSet) (new : Columns) (lent : Working) (u′ M : ℕ) where
+    pub no-step : poolStepAnswer p number old new lent u′ M ≡ refused k place
+    unfolding poolStepAnswer poolStepTests
+    no-step = rw (first-front (poolTests p number) (stepTests (slotOf (p .table) number .segments) old new (stateOf p number) lent u′ M) fault)
+
+    pub no-stepped : poolStep p number old new lent u′ M ≡ p
+    unfolding poolStep
+    no-stepped = rw no-step
+
+    pub no-worked : poolStepWorking p number old new lent u′ M ≡ lent
+    unfolding poolStepWorking
+    no-worked = rw no-step
+
+  pub no-report : (cols : Columns) (segment : ℕ) → poolReportAnswer p number cols segment ≡ refused k place
+  unfolding poolReportAnswer poolReportTests
+  no-report cols segment = rw (first-front (poolTests p number) (reportTests (slotOf (p .table) number .segments) cols (stateOf p number) segment) fault)

@@ -1,0 +1,467 @@
+// The calls on a pool: a table and three lists that up to eight rivers share. Each river works on its own stretch of the lists.
+ghost use mathlib.Core.Path.{_≡_};
+ghost use mathlib.Core.Bool.{false, _||_};
+ghost use mathlib.Core.List.{[], _∷_};
+ghost use Prim.Native.Nat.{_+_, _<_, _≤_};
+ghost use lib.Dec.{ltb};
+ghost use lib.ListN.{length};
+ghost use Rattle.lists.specs.Lent.{entry, exit};
+ghost use Rattle.model.specs.Ranges.{outside, concentration, mostSegments, mostRivers};
+ghost use Rattle.model.specs.Sheet.{segmentCount};
+ghost use Rattle.model.specs.Refusals.{passes, test, first};
+ghost use Rattle.model.specs.Pool.{openSegments, roomFault, tableFault, poolTests, poolStartAnswer, poolStart, poolStepAnswer, poolStep, poolStepWorking, poolReportAnswer, closeFinding, closedTable, openAnswer, openColumns, poolOpen};
+ghost use Rattle.terms.specs.Says.{findingSays};
+ghost use Rattle.terms.specs.Lent.{set, columns, working, tableIn, pool};
+ghost use Rattle.assembly.specs.Says.{loadSays};
+ghost use Rattle.otis.specs.Says.{startSays, stepSays, reportSays};
+ghost use Rattle.slots.specs.Says.{slotSays};
+ghost use Rattle.pool.specs.Left.{tableAfter, WhereLoaded, listAfterOpen, tableAfterOpen};
+use assembly::Load;
+use assembly::Loaded;
+use assembly::list_test;
+use assembly::river_test;
+use calltests::limits::HIGHEST;
+use otis::Report;
+use otis::River;
+use otis::Start;
+use otis::Step;
+use packing::pack_table;
+use packing::pack_with;
+use sheet::fields::segment_count;
+use slots::SEGMENTS;
+use slots::Slot;
+use slots::number_fault;
+use slots::put;
+use slots::room_fault;
+use slots::slot_with;
+use slots::table_fault;
+use slots::taken;
+use terms::Finding;
+use terms::Place;
+
+// The entries of a shared list that 13 wants.
+const ENTRIES: usize = SEGMENTS as usize;
+
+fn any_short(channel: usize, storage: usize, sediment: usize) -> bool
+    ensures { λ r. ⌜ r ≡ (ltb channel mostSegments || (ltb storage mostSegments || (ltb sediment mostSegments || false))) ⌝ }
+{
+    if channel < ENTRIES {
+        return true;
+    }
+    if storage < ENTRIES {
+        return true;
+    }
+    sediment < ENTRIES
+}
+
+// 18, and then 13 of the shared lists.
+fn pool_test(
+    river: u32,
+    channel: &[u32],
+    storage: &[u32],
+    sediment: &[u32],
+    table: &[u32; 40],
+) -> Finding
+    ensures { λ r. ⌜ findingSays r ≡ first (poolTests (pool entry channel storage sediment table) river) ⌝ }
+{
+    if number_fault(*table, river) {
+        return Finding::Fails(18, Place::Nothing);
+    }
+    if any_short(channel.len(), storage.len(), sediment.len()) {
+        return Finding::Fails(13, Place::Nothing);
+    }
+    Finding::Passes
+}
+
+// Puts U and the count of an accepted start into the river's slot; of a refused one nothing.
+fn keep_started(answer: Start, table: &mut [u32; 40], i: usize, x: Slot)
+    requires { ⌜ i < mostRivers ⌝ }
+    ensures { λ _. ⌜ tableIn (exit table) ≡ tableAfter (startSays answer) (tableIn (entry table)) i (slotSays x) ⌝ }
+{
+    match answer {
+        Start::Started(river) => put(table, i, slot_with(x, river.upstream, river.steps)),
+        Start::Refused(_, _) => {}
+    }
+}
+
+// The same of a step.
+fn keep_stepped(answer: Step, table: &mut [u32; 40], i: usize, x: Slot)
+    requires { ⌜ i < mostRivers ⌝ }
+    ensures { λ _. ⌜ tableIn (exit table) ≡ tableAfter (stepSays answer) (tableIn (entry table)) i (slotSays x) ⌝ }
+{
+    match answer {
+        Step::Stepped(river) => put(table, i, slot_with(x, river.upstream, river.steps)),
+        Step::Refused(_, _) => {}
+    }
+}
+
+// A start of an open river: tests 18, 13 and 14.
+pub fn start(
+    river: u32,
+    e: &[u32],
+    g: &[u32],
+    l: &[u32],
+    a: &[u32],
+    b: &[u32],
+    k: &[u32],
+    ks: &[u32],
+    h: &[u32],
+    m: &[u32],
+    s: &[u32],
+    cl: &[u32],
+    cb: &[u32],
+    kd: &[u32],
+    start: &[u32],
+    channel: &mut [u32],
+    storage: &mut [u32],
+    sediment: &mut [u32],
+    table: &mut [u32; 40],
+    u: u32,
+) -> Start
+    ensures answer { λ r. ⌜ startSays r ≡ poolStartAnswer (pool entry channel storage sediment table) river (columns entry e g l a b k ks h m s cl cb kd start) u ⌝ }
+    ensures pool { λ r. ⌜ pool exit channel storage sediment table ≡ poolStart (pool entry channel storage sediment table) river (columns entry e g l a b k ks h m s cl cb kd start) u ⌝ }
+{
+    let found = pool_test(river, &channel[..], &storage[..], &sediment[..], &*table);
+    if let Finding::Fails(number, place) = found {
+        return Start::Refused(number, place);
+    }
+    let at = river as usize - 1;
+    let x = taken(*table, at);
+    let first = x.first as usize;
+    let end = first + (x.segments as usize);
+    let answer = River::start(
+        x.segments,
+        e,
+        g,
+        l,
+        a,
+        b,
+        k,
+        ks,
+        h,
+        m,
+        s,
+        cl,
+        cb,
+        kd,
+        start,
+        &mut channel[first..end],
+        &mut storage[first..end],
+        &mut sediment[first..end],
+        u,
+    );
+    keep_started(answer, table, at, x);
+    answer
+}
+
+// A step of an open river: tests 18, 13, 14 and 15.
+pub fn step(
+    river: u32,
+    e0: &[u32],
+    g0: &[u32],
+    l0: &[u32],
+    a0: &[u32],
+    b0: &[u32],
+    k0: &[u32],
+    ks0: &[u32],
+    h0: &[u32],
+    m0: &[u32],
+    s0: &[u32],
+    e: &[u32],
+    g: &[u32],
+    l: &[u32],
+    a: &[u32],
+    b: &[u32],
+    k: &[u32],
+    ks: &[u32],
+    h: &[u32],
+    m: &[u32],
+    s: &[u32],
+    cl: &[u32],
+    cb: &[u32],
+    kd: &[u32],
+    start: &[u32],
+    channel: &mut [u32],
+    storage: &mut [u32],
+    sediment: &mut [u32],
+    table: &mut [u32; 40],
+    p: &mut [u64],
+    y: &mut [u64],
+    u: u32,
+    steps: u32,
+) -> Step
+    ensures answer { λ r. ⌜ stepSays r ≡ poolStepAnswer (pool entry channel storage sediment table) river (set entry e0 g0 l0 a0 b0 k0 ks0 h0 m0 s0)
+        (columns entry e g l a b k ks h m s cl cb kd start) (working entry p y) u steps ⌝ }
+    ensures pool { λ r. ⌜ pool exit channel storage sediment table ≡ poolStep (pool entry channel storage sediment table) river
+        (set entry e0 g0 l0 a0 b0 k0 ks0 h0 m0 s0) (columns entry e g l a b k ks h m s cl cb kd start) (working entry p y) u steps ⌝ }
+    ensures working { λ r. ⌜ working exit p y ≡ poolStepWorking (pool entry channel storage sediment table) river (set entry e0 g0 l0 a0 b0 k0 ks0 h0 m0 s0)
+        (columns entry e g l a b k ks h m s cl cb kd start) (working entry p y) u steps ⌝ }
+{
+    let found = pool_test(river, &channel[..], &storage[..], &sediment[..], &*table);
+    if let Finding::Fails(number, place) = found {
+        return Step::Refused(number, place);
+    }
+    let at = river as usize - 1;
+    let x = taken(*table, at);
+    let first = x.first as usize;
+    let end = first + (x.segments as usize);
+    let held = River {
+        upstream: x.upstream,
+        steps: x.steps,
+    };
+    let answer = held.step(
+        x.segments,
+        e0,
+        g0,
+        l0,
+        a0,
+        b0,
+        k0,
+        ks0,
+        h0,
+        m0,
+        s0,
+        e,
+        g,
+        l,
+        a,
+        b,
+        k,
+        ks,
+        h,
+        m,
+        s,
+        cl,
+        cb,
+        kd,
+        start,
+        &mut channel[first..end],
+        &mut storage[first..end],
+        &mut sediment[first..end],
+        p,
+        y,
+        u,
+        steps,
+    );
+    keep_stepped(answer, table, at, x);
+    answer
+}
+
+// A report of a segment of an open river, which counts from 1: tests 18, 13 and 14.
+pub fn report(
+    river: u32,
+    e: &[u32],
+    g: &[u32],
+    l: &[u32],
+    a: &[u32],
+    b: &[u32],
+    k: &[u32],
+    ks: &[u32],
+    h: &[u32],
+    m: &[u32],
+    s: &[u32],
+    cl: &[u32],
+    cb: &[u32],
+    kd: &[u32],
+    start: &[u32],
+    channel: &[u32],
+    storage: &[u32],
+    sediment: &[u32],
+    table: &[u32; 40],
+    segment: u32,
+) -> Report
+    ensures { λ r. ⌜ reportSays r ≡ poolReportAnswer (pool entry channel storage sediment table) river (columns entry e g l a b k ks h m s cl cb kd start) segment ⌝ }
+{
+    let found = pool_test(river, channel, storage, sediment, table);
+    if let Finding::Fails(number, place) = found {
+        return Report::Refused(number, place);
+    }
+    let x = taken(*table, river as usize - 1);
+    let first = x.first as usize;
+    let end = first + (x.segments as usize);
+    let held = River {
+        upstream: x.upstream,
+        steps: x.steps,
+    };
+    held.report(
+        x.segments,
+        e,
+        g,
+        l,
+        a,
+        b,
+        k,
+        ks,
+        h,
+        m,
+        s,
+        cl,
+        cb,
+        kd,
+        start,
+        &channel[first..end],
+        &storage[first..end],
+        &sediment[first..end],
+        segment,
+    )
+}
+
+// A closing: 18 alone.
+pub fn close(river: u32, table: &mut [u32; 40]) -> Finding
+    ensures answer { λ r. ⌜ findingSays r ≡ closeFinding (tableIn (entry table)) river ⌝ }
+    ensures table { λ _. ⌜ tableIn (exit table) ≡ closedTable (tableIn (entry table)) river ⌝ }
+{
+    if number_fault(*table, river) {
+        return Finding::Fails(18, Place::Nothing);
+    }
+    let at = river as usize - 1;
+    let x = taken(*table, at);
+    put(
+        table,
+        at,
+        Slot {
+            opened: 0,
+            first: x.first,
+            segments: x.segments,
+            upstream: x.upstream,
+            steps: x.steps,
+        },
+    );
+    Finding::Passes
+}
+
+// 17, and then 18 of the table alone, behind tests 1 to 12.
+fn room_test(found: Finding, sheet: &[u8], table: &[u32; 40], river: u32) -> Finding
+    requires { ⌜ (findingSays found ≡ passes → segmentCount (now sheet) ≤ mostSegments) ⌝ }
+    ensures { λ r. ⌜ findingSays r ≡ first (findingSays found ∷ test 17 (roomFault (tableIn (entry table)) river (segmentCount (entry sheet)))
+        ∷ test 18 (tableFault (tableIn (entry table))) ∷ []) ⌝ }
+{
+    if let Finding::Fails(number, place) = found {
+        return Finding::Fails(number, place);
+    }
+    if room_fault(*table, river, segment_count(sheet) as u32) {
+        return Finding::Fails(17, Place::Nothing);
+    }
+    if table_fault(*table) {
+        return Finding::Fails(18, Place::Nothing);
+    }
+    Finding::Passes
+}
+
+// 13 of the shared lists, by their lengths, and then 14 of U, behind the tests before.
+fn last_test(found: Finding, channel: usize, storage: usize, sediment: usize, u: u32) -> Finding
+    ensures { λ r. ⌜ findingSays r ≡ first (findingSays found ∷ test 13 (ltb channel mostSegments || (ltb storage mostSegments || (ltb sediment mostSegments || false)))
+        ∷ test 14 (outside concentration u) ∷ []) ⌝ }
+{
+    if let Finding::Fails(number, place) = found {
+        return Finding::Fails(number, place);
+    }
+    if any_short(channel, storage, sediment) {
+        return Finding::Fails(13, Place::Nothing);
+    }
+    if HIGHEST < u {
+        return Finding::Fails(14, Place::Nothing);
+    }
+    Finding::Passes
+}
+
+// A shared list after this answer to an opening; `figures` are the new river's start figures.
+fn pack_if(answer: Load, table: [u32; 40], figures: &[u32], list: &mut [u32])
+    requires { ⌜ WhereLoaded (loadSays answer) (λ n. (n + openSegments (tableIn table) ≤ mostSegments) × (n ≤ length (now figures)) × (mostSegments ≤ length (now list))) ⌝ }
+    ensures { λ _. ⌜ exit list ≡ listAfterOpen (loadSays answer) (tableIn table) (entry figures) (entry list) ⌝ }
+{
+    if let Load::Loaded(v) = answer {
+        pack_with(table, v.segments as usize, figures, list);
+    }
+}
+
+// The table after it.
+fn pack_table_if(answer: Load, table: &mut [u32; 40], river: u32, u: u32)
+    requires { ⌜ WhereLoaded (loadSays answer) (λ n. (1 ≤ river) × (river ≤ mostRivers) × (tableFault (tableIn (now table)) ≡ false)) ⌝ }
+    ensures { λ _. ⌜ tableIn (exit table) ≡ tableAfterOpen (loadSays answer) (tableIn (entry table)) river u ⌝ }
+{
+    if let Load::Loaded(v) = answer {
+        pack_table(table, river as usize - 1, v.segments, u);
+    }
+}
+
+// An opening: the sheet is loaded for flow `row` and the river started with U at step 0, which is `u`. Tests 1 to 12 with 16 among them, 17, 18, 13 and
+// 14. Of the list of reach records it is handed the length.
+pub fn open_lists(
+    river: u32,
+    sheet: &[u8],
+    row: u32,
+    records: usize,
+    e: &mut [u32],
+    g: &mut [u32],
+    l: &mut [u32],
+    a: &mut [u32],
+    b: &mut [u32],
+    k: &mut [u32],
+    ks: &mut [u32],
+    h: &mut [u32],
+    m: &mut [u32],
+    s: &mut [u32],
+    cl: &mut [u32],
+    cb: &mut [u32],
+    kd: &mut [u32],
+    start: &mut [u32],
+    channel: &mut [u32],
+    storage: &mut [u32],
+    sediment: &mut [u32],
+    table: &mut [u32; 40],
+    u: u32,
+) -> Load
+    ensures answer { λ r. ⌜ loadSays r ≡ openAnswer (entry sheet) row records (columns entry e g l a b k ks h m s cl cb kd start)
+        (pool entry channel storage sediment table) river u ⌝ }
+    ensures lists { λ r. ⌜ columns exit e g l a b k ks h m s cl cb kd start ≡ openColumns (entry sheet) row records (columns entry e g l a b k ks h m s cl cb kd start)
+        (pool entry channel storage sediment table) river u ⌝ }
+    ensures pool { λ r. ⌜ pool exit channel storage sediment table ≡ poolOpen (entry sheet) row records (columns entry e g l a b k ks h m s cl cb kd start)
+        (pool entry channel storage sediment table) river u ⌝ }
+{
+    let listed = list_test(
+        room_test(river_test(sheet), sheet, &*table, river),
+        sheet,
+        row,
+        records,
+        &e[..],
+        &g[..],
+        &l[..],
+        &a[..],
+        &b[..],
+        &k[..],
+        &ks[..],
+        &h[..],
+        &m[..],
+        &s[..],
+        &cl[..],
+        &cb[..],
+        &kd[..],
+        &start[..],
+    );
+    let found = last_test(listed, channel.len(), storage.len(), sediment.len(), u);
+    let answer = Loaded::write(
+        found,
+        sheet,
+        row,
+        e,
+        g,
+        l,
+        a,
+        b,
+        k,
+        ks,
+        h,
+        m,
+        s,
+        cl,
+        cb,
+        kd,
+        start,
+    );
+    pack_if(answer, *table, &start[..], channel);
+    pack_if(answer, *table, &start[..], storage);
+    pack_if(answer, *table, &start[..], sediment);
+    pack_table_if(answer, table, river, u);
+    answer
+}

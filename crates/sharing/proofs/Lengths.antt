@@ -1,0 +1,115 @@
+-- The lists of a river that has them alone keep their lengths through starts and steps, and one call more behind a list of calls.
+use mathlib.Core.Path.{_≡_, refl, sym, ap, _∙_}
+use mathlib.Core.List.{List, [], _∷_, _++_, map, append-nil}
+use Prim.Native.Nat.{ℕ, suc}
+use native.Mathlib.Omega.{arith}
+use lib.ListN.{length, drop-of-length-le, length-map}
+use Rattle.lists.specs.Lists.{over}
+use Rattle.lists.proofs.Tab.{length-tab}
+use Rattle.lists.proofs.Over.{length-over}
+use Rattle.model.specs.Equations.{Figures, Pair}
+use Rattle.model.specs.Sweep.{Row, rows, Passed, Above, under, pass, down, up, finish, downward, stepped}
+use Rattle.model.specs.State.{NumberSet, Columns, segmentsOf, pairsOf, State, figuresAt, figuresOf, writeFigures}
+use Rattle.model.specs.Refusals.{Outcome, accepted, refused}
+use Rattle.model.specs.Calls.{River, Working, startAnswer, startFigures, stateAfterStart, startState, stepAnswer, stateAfterStep, stepState}
+use Rattle.model.specs.Runs.{Call, after, run}
+use Rattle.model.specs.PoolClaim.{OwnLists}
+
+-- ---- a step has figures for each segment
+
+-- a row for each segment
+length-rows : (above : ℕ) (xs : List Pair) (fs : List Figures) → length fs ≡ length xs → length (rows above xs fs) ≡ length xs
+length-rows above [] fs e = refl
+length-rows above (x ∷ xs) [] e = absurd (omega arith)
+length-rows above (x ∷ xs) (f ∷ fs) e = ap suc (length-rows (f .c) xs fs (omega arith))
+
+-- p and y of each row
+length-down : (above : Above) (rs : List Row) → length (down above rs) ≡ length rs
+length-down above [] = refl
+length-down above (r ∷ rs) = ap suc (length-down (under (pass above r)) rs)
+
+-- a channel figure of each
+length-up : (ds : List Passed) → length (up ds) ≡ length ds
+length-up [] = refl
+length-up (d ∷ ds) = ap suc (length-up ds)
+
+-- new figures of each segment
+length-finish : (xs : List Pair) (fs : List Figures) (cs : List ℕ) → length fs ≡ length xs → length cs ≡ length xs → length (finish xs fs cs) ≡ length xs
+length-finish [] fs cs e q = refl
+length-finish (x ∷ xs) [] cs e q = absurd (omega arith)
+length-finish (x ∷ xs) (f ∷ fs) [] e q = absurd (omega arith)
+length-finish (x ∷ xs) (f ∷ fs) (c ∷ cs) e q = ap suc (length-finish xs fs cs (omega arith) (omega arith))
+
+-- those of a step
+length-stepped : (u u′ : ℕ) (xs : List Pair) (fs : List Figures) → length fs ≡ length xs → length (stepped u u′ xs fs) ≡ length xs
+unfolding stepped downward
+length-stepped u u′ xs fs e =
+    length-finish xs fs (up (downward u u′ xs fs)) e
+    (length-up (downward u u′ xs fs) ∙ length-down (Above.top u′) (rows u xs fs) ∙ length-rows u xs fs e)
+
+-- ---- figures written over lists of as many entries
+
+module _ (fs : List Figures) (part : Figures → ℕ) (before : List ℕ) (n : ℕ) (many : length fs ≡ n) (own : length before ≡ n) where
+  -- a list is as long as it was
+  length-written : length (over (map part fs) before) ≡ n
+  length-written = length-over (map part fs) before (omega (arith, length-map fs part)) ∙ own
+
+  -- nothing of the list before is left
+  over-all : over (map part fs) before ≡ map part fs
+  over-all = rw (drop-of-length-le before {i = length (map part fs)} (omega (arith, length-map fs part))) (append-nil (map part fs))
+
+-- the lists are then the figures
+pub write-all : (fs : List Figures) (u steps n : ℕ) (before : State) → length fs ≡ n → OwnLists n before → writeFigures fs u steps before ≡ record {
+  channel = map (λ x. x .c) fs;
+  storage = map (λ x. x .z) fs;
+  sediment = map (λ x. x .w) fs;
+  upstream = u;
+  steps = steps;
+}
+unfolding writeFigures
+write-all fs u steps n before many own = rw (
+  over-all fs (λ x. x .c) (before .channel) n many (own .channel),
+  over-all fs (λ x. x .z) (before .storage) n many (own .storage),
+  over-all fs (λ x. x .w) (before .sediment) n many (own .sediment),
+)
+
+-- the three lists are as long as they were
+own-written : (fs : List Figures) (u steps n : ℕ) (before : State) → length fs ≡ n → OwnLists n before → OwnLists n (writeFigures fs u steps before)
+unfolding writeFigures
+own-written fs u steps n before many own = record {
+  channel = length-written fs (λ x. x .c) (before .channel) n many (own .channel);
+  storage = length-written fs (λ x. x .z) (before .storage) n many (own .storage);
+  sediment = length-written fs (λ x. x .w) (before .sediment) n many (own .sediment);
+}
+
+module _ (n : ℕ) (columns : Columns) (state : State) (own : OwnLists n state) where
+  -- a start leaves lists of the same lengths
+  pub start-own : (u : ℕ) → OwnLists n (startState n columns state u)
+  unfolding startState
+  start-own u = go (startAnswer n columns state u)
+    where
+      go : (o : Outcome River) → OwnLists n (stateAfterStart o n columns state)
+      go (accepted v) = own-written _ _ _ n state (length-map (segmentsOf n columns) startFigures ∙ length-tab _ 0 n) own
+      go (refused number place) = own
+
+  -- and a step
+  pub step-own : (old : NumberSet) (working : Working) (u′ M : ℕ) → OwnLists n (stepState n old columns state working u′ M)
+  unfolding stepState
+  step-own old working u′ M = go (stepAnswer n old columns state working u′ M)
+    where
+      size : length (pairsOf n old columns) ≡ n
+      size = length-tab _ 0 n
+
+      go : (o : Outcome River) → OwnLists n (stateAfterStep o n old columns state)
+      go (accepted v) =
+          own-written _ _ _ n state
+          (length-stepped (state .upstream) (v .upstream) (pairsOf n old columns) (figuresOf n state) (length-tab (figuresAt state) 0 n ∙ sym size) ∙ size) own
+      go (refused number place) = own
+
+-- ---- one call more
+
+-- a list of calls and then one more
+pub run-last : (before : State) (calls : List Call) (call : Call) → run before (calls ++ (call ∷ [])) ≡ after (run before calls) call
+unfolding run
+run-last before [] call = refl
+run-last before (c ∷ calls) call = run-last (after before c) calls call

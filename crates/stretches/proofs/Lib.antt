@@ -1,0 +1,5 @@
+pub mod Packing
+pub mod Tables
+pub mod Pools
+pub mod Answers
+pub mod Openings
