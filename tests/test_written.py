@@ -1,8 +1,8 @@
-"""What the repository's scripts write is what is stored: the proofs by hand and the cases of program `cases`.
+"""What the repository's scripts write is what is stored: the proofs by hand, the cases of program `cases`, and what program `samples` prints.
 
     python3 tests/test_written.py
 
-Both are written anew in a temporary folder and compared byte for byte.  It needs rt, which lays the proofs out.
+All are written anew in a temporary folder and compared byte for byte.  It needs rt, which lays the proofs out.
 """
 from __future__ import annotations
 
@@ -12,9 +12,10 @@ import tempfile
 from pathlib import Path
 
 import load_cases
+import sample_fractions
 
 ROOT = Path(__file__).resolve().parent.parent
-LEAST = 10                          # files: eight proofs, and what program `cases` is given and must print
+LEAST = 11                          # files: eight proofs, what program `cases` is given and must print, and what `samples` must
 
 
 def write_proofs(folder: Path) -> None:
@@ -29,6 +30,12 @@ def write_cases(folder: Path) -> None:
     crate = folder / load_cases.CRATE.relative_to(ROOT)
     crate.mkdir(parents=True)
     load_cases.write_cases(load_cases.chosen(), crate / "stdin", crate / "stdout")
+
+
+def write_samples(folder: Path) -> None:
+    crate = folder / sample_fractions.CRATE.relative_to(ROOT)
+    crate.mkdir(parents=True)
+    (crate / "stdout").write_text(sample_fractions.listing())
 
 
 def differences(folder: Path) -> list[str]:
@@ -47,6 +54,7 @@ def main() -> int:
         folder = Path(name)
         write_proofs(folder)
         write_cases(folder)
+        write_samples(folder)
         found = differences(folder)
     for each in found:
         print(f"  not stored as it is written: {each}")
