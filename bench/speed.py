@@ -17,8 +17,7 @@ import tempfile
 import time
 from pathlib import Path
 
-HERE = Path(__file__).resolve().parent
-ROOT = HERE.parent
+ROOT = Path(__file__).resolve().parent.parent
 
 # A reach in the sheet's order, with every rate at work: D, A, AS, ALPHA, qin, qout, CL, LAMBDA, LAMBDA2, LAMHAT, LAMHAT2, RHO, Kd, CB, start.
 ALL_RATES = (1_200, 10_000, 5_000, 100_000, 200, 100, 5_000_000, 20_000, 30_000, 50_000, 40_000, 40_000, 70, 1_000_000, 2_000_000)
@@ -63,9 +62,9 @@ def side_by_side(river: Path, other: Path, given: bytes, runs: int) -> tuple[flo
     return best[0], best[1]
 
 
-def compiled(folder: Path, source: str, *more: str) -> Path:
+def compiled(folder: Path, source: str, *more: str, tree: Path = ROOT) -> Path:
     program = folder / Path(source).stem
-    subprocess.run(["gcc", "-O3", "-I", ROOT / "include", "-o", program, HERE / source, *more], check=True)
+    subprocess.run(["gcc", "-O3", "-I", tree / "include", "-o", program, tree / "bench" / source, *more], check=True)
     return program
 
 

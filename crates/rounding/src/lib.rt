@@ -58,19 +58,92 @@ fn capped(x: u64) -> u32
     if x <= WHOLE { x as u32 } else { ABOVE }
 }
 
+// In which base the thirty bits of a fraction are taken, and how many digits they are in it: one whole is the base to that power.
+struct Radix {
+    base: u64,
+    digits: u32,
+}
+
+impl Radix {
+    // What rests on the denominator alone. Of thirty, fifteen and ten bits a digit has the most with which a remainder times the base stays
+    // within 64 bits. Above 2^54, past every denominator of the sheet, a digit is one bit.
+    fn new(d: u64) -> Radix
+        ensures { λ p. ⌜ (p .base ^ p .digits ≡ S) × (2 ≤ p .base) × (2 < p .base → d * p .base ≤ 2 ^ 64) × (d ≤ 2 ^ 54 → p .digits ≤ 3) ⌝ }
+    {
+        if d <= 1 << 34 {
+            return Radix {
+                base: 1 << 30,
+                digits: 1,
+            };
+        }
+        if d <= 1 << 49 {
+            return Radix {
+                base: 1 << 15,
+                digits: 2,
+            };
+        }
+        if d <= 1 << 54 {
+            return Radix {
+                base: 1 << 10,
+                digits: 3,
+            };
+        }
+        Radix {
+            base: 2,
+            digits: 30,
+        }
+    }
+}
+
+// The quotient and the remainder of the dividend times a base: one digit more. Twice a remainder may leave 64 bits, so base 2 is apart.
+fn multiplied(q: u64, r: u64, d: u64, base: u64) -> Split
+    requires { ⌜ (r < d) × (base * (q + 1) ≤ 2 ^ 31) × (2 ≤ base) × (2 < base → d * base ≤ 2 ^ 64) ⌝ }
+    ensures { λ s. ⌜ (s .quotient * d + s .rest ≡ base * (q * d + r)) × (s .rest < d) × (s .quotient < base * (q + 1)) ⌝ }
+{
+    if base == 2 {
+        return doubled(q, r, d);
+    }
+    let product = r * base;
+    let quotient = q * base + product / d;
+    Split {
+        quotient: quotient,
+        rest: product % d,
+    }
+}
+
+// n less d once, where d goes into it: the quotient and the remainder of a fraction below two, without a division. Only from two on the
+// remainder is not below d.
+fn first_bit(n: u64, d: u64) -> Split
+    ensures { λ s. ⌜ (s .quotient * d + s .rest ≡ n) × (s .quotient ≤ 1) × (d ≤ s .rest → 2 * d ≤ n) ⌝ }
+{
+    if n < d {
+        Split {
+            quotient: 0,
+            rest: n,
+        }
+    } else {
+        Split {
+            quotient: 1,
+            rest: n - d,
+        }
+    }
+}
+
 // The fraction n / d in parts of one whole, to the nearest, or one part above one whole where they are more than one whole.
 pub fn parts(n: u64, d: u64) -> u32
     requires { ⌜ 0 < d ⌝ }
     ensures { λ v. ⌜ v ≡ min (parts n d) (S + 1) ⌝ }
 {
-    let mut q = n / d;
-    if 2 <= q {
+    let first = first_bit(n, d);
+    let mut q = first.quotient;
+    let mut r = first.rest;
+    if d <= r {
         return ABOVE;
     }
-    let mut r = n % d;
+    let radix = Radix::new(d);
     let mut i: u32 = 0;
-    while i < 30 {
-        let s = doubled(q, r, d);
+    while i < radix.digits {
+        let s = multiplied(q, r, d, radix.base);
         q = s.quotient;
         r = s.rest;
         i += 1;
