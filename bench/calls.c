@@ -13,14 +13,14 @@ static uint32_t words[YUMBAQEL_WORDS(YUMBAQEL_MOST_SEGMENTS)], copy_words[YUMBAQ
 static uint32_t set_words[YUMBAQEL_SET_WORDS(YUMBAQEL_MOST_SEGMENTS)];
 static uint64_t wide_words[YUMBAQEL_WIDE_WORDS(YUMBAQEL_MOST_SEGMENTS)], copy_wide_words[YUMBAQEL_WIDE_WORDS(YUMBAQEL_MOST_SEGMENTS)];
 static uint32_t row_words[YUMBAQEL_ROW_WORDS(YUMBAQEL_MOST_ROWS)];
-static uint32_t shared_words[YUMBAQEL_COPY_WORDS(YUMBAQEL_MOST_SEGMENTS)], pool_river_words[YUMBAQEL_LOADING_WORDS(YUMBAQEL_MOST_SEGMENTS)];
+static uint32_t shared_words[YUMBAQEL_SHARED_WORDS], pool_river_words[YUMBAQEL_LOADING_WORDS(YUMBAQEL_MOST_SEGMENTS)];
 static uint64_t shared_wide_words[YUMBAQEL_WIDE_WORDS(YUMBAQEL_MOST_SEGMENTS)];
-static uint32_t pool_set_words[YUMBAQEL_SET_WORDS(YUMBAQEL_MOST_SEGMENTS)];
+static uint32_t pool_set_words[YUMBAQEL_SET_WORDS(YUMBAQEL_MOST_SEGMENTS)], pool_highest_words[YUMBAQEL_BLOCKS];
 static struct yumbaqel_river river, copy, pool_river;
 static struct yumbaqel_shared shared;
 static struct yumbaqel_refusal told;
 static struct yumbaqel_figures figures;
-static uint32_t u;
+static uint32_t u, segment, limit;
 static volatile uint32_t found;
 
 static void load(void) { told = yumbaqel_river_load(&river, sheet, length, reaches, YUMBAQEL_MOST_REACHES); }
@@ -28,6 +28,7 @@ static void rows(void) { told = yumbaqel_river_rows(&river); }
 static void upstream(void) { told = yumbaqel_river_upstream(&river, river.loaded.steps, &u); }
 static void start(void) { told = yumbaqel_river_start(&river, u); }
 static void report(void) { told = yumbaqel_river_report(&river, river.loaded.segments, &figures); }
+static void search(void) { told = yumbaqel_river_search(&river, limit, &segment); }
 static void copy_state(void) { told = yumbaqel_river_copy_state(&copy, &river); }
 static void gauge(void) { found = yumbaqel_river_gauge(&river, river.loaded.gauges - 1); }
 static void flow(void) { found = yumbaqel_flow(sheet, length, 0); }
@@ -43,6 +44,7 @@ static void step(void)
 
 static void pool_start(void) { told = yumbaqel_shared_start(&shared, 1, &pool_river, u); }
 static void pool_report(void) { told = yumbaqel_shared_report(&shared, 1, &pool_river, pool_river.loaded.segments, &figures); }
+static void pool_search(void) { told = yumbaqel_shared_search(&shared, 1, &pool_river, limit, &segment); }
 
 static void pool_open(void)
 {
@@ -100,6 +102,19 @@ static void print_time(const char *name, void (*call)(void))
     printf("%s %.1f\n", name, 1e9 * best);
 }
 
+/* Two searches: none of the river is above, and its last segment alone is, before which all highest figures and fifteen segments come. */
+static void print_searches(const char *none, const char *last, void (*call)(void), uint32_t *channel, uint32_t *highest, uint32_t n)
+{
+    limit = YUMBAQEL_HIGHEST;
+    print_time(none, call);
+    channel[n - 1] = highest[(n - 1) / 16] = limit--;
+    print_time(last, call);
+    if (segment != n) {
+        fprintf(stderr, "calls: %s finds segment %u\n", last, (unsigned)segment);
+        exit(1);
+    }
+}
+
 int main(void)
 {
     length = fread(sheet, 1, sizeof sheet, stdin);
@@ -115,13 +130,14 @@ int main(void)
     print_time("report", report);
     yumbaqel_river_lend_copy(&copy, &river, YUMBAQEL_MOST_SEGMENTS, copy_words, copy_wide_words);
     print_time("copy_state", copy_state);
+    print_searches("search", "search_last", search, river.channel.at, river.highest.at, river.loaded.segments);
     print_time("gauge", gauge);
     print_time("flow", flow);
     print_time("dt", dt);
     print_time("dx", dx);
     print_time("version", version);
     yumbaqel_shared_lend(&shared, shared_words, shared_wide_words);
-    yumbaqel_shared_lend_river(&shared, &pool_river, YUMBAQEL_MOST_SEGMENTS, pool_river_words);
+    yumbaqel_shared_lend_river(&shared, &pool_river, YUMBAQEL_MOST_SEGMENTS, pool_river_words, pool_highest_words);
     yumbaqel_river_lend_set(&pool_river, YUMBAQEL_MOST_SEGMENTS, pool_set_words);
     print_time("pool_open", pool_open);
     print_time("pool_moving", pool_moving);
@@ -129,6 +145,8 @@ int main(void)
     told = yumbaqel_river_sets(&pool_river, reaches, YUMBAQEL_MOST_REACHES);
     print_time("pool_step", pool_step);
     print_time("pool_report", pool_report);
+    print_searches("pool_search", "pool_search_last", pool_search, shared.channel.at + shared.table.slots[0].first,
+                   pool_river.highest.at, pool_river.loaded.segments);
     print_time("pool_close", pool_close);
     return 0;
 }

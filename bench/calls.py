@@ -5,7 +5,8 @@
 bench/calls.c makes the calls; the best of all runs counts. The first column is the largest river without flow rows: 1,024 segments, 64
 reaches, 256 rows, 32 gauges; the second one has 64 flow rows too, and its step is one with two sets. The others are a small river, and
 what one segment, reach, row, gauge or flow row more adds to it, each measured from the small river to that many. pool_moving is an opening
-that moves another river, which has the rest of the shared lists.
+that moves another river, which has the rest of the shared lists; search is one where none of the river is above the limit, search_last one
+where its last segment alone is.
 """
 from __future__ import annotations
 
@@ -65,9 +66,9 @@ def main() -> None:
         program = compiled(Path(name), "calls.c", str(given.archive))
         largest, flows, small = (timed(program, size, given.runs) for size in (LARGEST, LARGEST_WITH_FLOWS, SMALL))
         grown = {what: timed(program, size, given.runs) for what, size in GROWN.items()}
-    print(f"{'ns':<12}{'largest':>12}{'64 flow rows':>14}{'small':>10}" + "".join(f"{'per ' + what:>14}" for what in GROWN))
+    print(f"{'ns':<18}{'largest':>12}{'64 flow rows':>14}{'small':>10}" + "".join(f"{'per ' + what:>14}" for what in GROWN))
     for call, took in largest.items():
-        line = f"{call:<12}{took:>12,.0f}{flows[call]:>14,.0f}{small[call]:>10,.0f}"
+        line = f"{call:<18}{took:>12,.0f}{flows[call]:>14,.0f}{small[call]:>10,.0f}"
         for what, size in GROWN.items():
             more = max(here - there for here, there in zip(size, SMALL))
             line += f"{(grown[what][call] - small[call]) / more:>14.1f}"

@@ -9,16 +9,17 @@ typedef unsigned __int128 u128;
 #define S ((u64)1 << 30)
 #define HIGHEST 1000000000u
 #define SEGMENTS 1024
+#define BLOCK 16                   /* segments with one highest channel figure */
 
 /* The half-step numbers of one flow. */
 struct set {
     u32 *e, *g, *l, *a, *b, *k, *ks, *h, *m, *s;
 };
 
-/* The other lists of a loading, those of the state, and of the downward pass, as they are lent to a step. */
+/* The other lists of a loading, those of the state, the highest figures, and those of the downward pass, as they are lent to a step. */
 struct lists {
     u32 *cl, *cb, *kd, *start;
-    u32 *channel, *storage, *sediment;
+    u32 *channel, *storage, *sediment, *highest;
     u64 *p, *y;
 };
 
@@ -151,14 +152,14 @@ static inline u64 sediment_right(u32 h0, u32 c, u32 w) {
     return (S - h0) * w + (u64)h0 * c;
 }
 
-/* the sweep */
+/* the sweep; the upward pass keeps the highest figure of each block */
 LENT_CALL static void sweep(const struct set *old, const struct set *new, const struct lists *on, u32 n, u32 u, u32 next) {
     OF_OLD_SET(e); OF_OLD_SET(g); OF_OLD_SET(l); OF_OLD_SET(a); OF_OLD_SET(b); OF_OLD_SET(k); OF_OLD_SET(ks); OF_OLD_SET(h);
     OF_OLD_SET(m); OF_OLD_SET(s);
     OF_NEW_SET(e); OF_NEW_SET(g); OF_NEW_SET(l); OF_NEW_SET(a); OF_NEW_SET(b); OF_NEW_SET(k); OF_NEW_SET(ks); OF_NEW_SET(h);
     OF_NEW_SET(m); OF_NEW_SET(s);
     LENT_TO_READ(cl); LENT_TO_READ(cb);
-    LENT_TO_WRITE(channel); LENT_TO_WRITE(storage); LENT_TO_WRITE(sediment);
+    LENT_TO_WRITE(channel); LENT_TO_WRITE(storage); LENT_TO_WRITE(sediment); LENT_TO_WRITE(highest);
     u64 *restrict p = on->p, *restrict y = on->y;
     u64 above = u, p_above = 0, y_above = next;
     for (u32 i = 0; i < n; i++) {
@@ -174,7 +175,7 @@ LENT_CALL static void sweep(const struct set *old, const struct set *new, const 
         y_above = y[i] = nearest(r + (u64)e[i] * y_above, pivot);
         above = c;
     }
-    u64 below = 0;
+    u64 below = 0, most = 0;
     for (u32 i = n; i > 0;) {
         i--;
         below = y[i] + nearest(p[i] * below, S);
@@ -184,20 +185,28 @@ LENT_CALL static void sweep(const struct set *old, const struct set *new, const 
         channel[i] = (u32)c;
         storage[i] = z;
         sediment[i] = w;
+        most = c > most ? c : most;
+        if (i % BLOCK == 0) {
+            highest[i / BLOCK] = (u32)most;
+            most = 0;
+        }
     }
 }
 
 /* A river's lists and two sets, in static memory. */
-static u32 words[7][SEGMENTS], set_words[2][10][SEGMENTS];
+static u32 words[7][SEGMENTS], highest_words[SEGMENTS / BLOCK], set_words[2][10][SEGMENTS];
 static u64 wide_words[2][SEGMENTS];
 
 static const struct lists own = {
-    words[0], words[1], words[2], words[3], words[4], words[5], words[6], wide_words[0], wide_words[1]};
+    words[0], words[1], words[2], words[3], words[4], words[5], words[6], highest_words, wide_words[0], wide_words[1]};
 
 #define SET(of) {of[0], of[1], of[2], of[3], of[4], of[5], of[6], of[7], of[8], of[9]}
 static const struct set sets[2] = {SET(set_words[0]), SET(set_words[1])};
 
 static void begin(u32 n) {
-    for (u32 i = 0; i < n; i++)
+    for (u32 i = 0; i < n; i++) {
+        u32 so_far = i % BLOCK == 0 ? 0 : own.highest[i / BLOCK];
         own.channel[i] = own.storage[i] = own.sediment[i] = own.start[i];
+        own.highest[i / BLOCK] = own.start[i] > so_far ? own.start[i] : so_far;
+    }
 }

@@ -43,7 +43,8 @@ static void compare(const char *title, int side, u32 n, u32 u) {
         double begun = seconds();
         for (int j = 0; j < STEPS; j++) {
             yumbaqel_step(&told.number, &told.kind, &told.place, n, YUMBAQEL_SET(library_old), YUMBAQEL_SET(library_new),
-                          YUMBAQEL_OTHERS(&river), YUMBAQEL_FIGURES(&river), &river.upstream, &river.done,
+                          YUMBAQEL_OTHERS(&river), YUMBAQEL_FIGURES(&river), river.highest.at, river.highest.length,
+                          &river.upstream, &river.done,
                           river.p.at, river.p.length, river.y.at, river.y.length, u, 100000);
             if (told.number != 0)
                 fail("a step is refused");
@@ -61,7 +62,8 @@ static void compare(const char *title, int side, u32 n, u32 u) {
         tested = took < tested ? took : tested;
 
         if (memcmp(own.channel, river.channel.at, n * sizeof(u32)) || memcmp(own.storage, river.storage.at, n * sizeof(u32))
-            || memcmp(own.sediment, river.sediment.at, n * sizeof(u32)))
+            || memcmp(own.sediment, river.sediment.at, n * sizeof(u32))
+            || memcmp(own.highest, river.highest.at, YUMBAQEL_HIGHEST_WORDS(n) * sizeof(u32)))
             fail("the figures differ");
     }
     for (int round = 0; round < ROUNDS; round++) {

@@ -17,7 +17,7 @@ static uint64_t wide_words[YUMBAQEL_WIDE_WORDS(YUMBAQEL_MOST_SEGMENTS)];
 static uint32_t set_words[YUMBAQEL_SET_WORDS(YUMBAQEL_MOST_SEGMENTS)];
 static uint32_t row_words[YUMBAQEL_ROW_WORDS(YUMBAQEL_MOST_ROWS)];
 
-/* A copy in words: its number, U, the count of steps, C, Z and W of each segment; and the check of all these. */
+/* A copy in words: its number, U, the count of steps, C, Z and W of each segment, the highest figures; and the check of all these. */
 enum { NUMBER, UPSTREAM, DONE, FIGURES, MOST = FIGURES + YUMBAQEL_COPY_WORDS(YUMBAQEL_MOST_SEGMENTS) + 1 };
 
 static uint32_t kept[2][MOST];     /* in a controller: battery-backed or ferroelectric memory, which start-up leaves alone */
@@ -81,7 +81,9 @@ static void keep(const struct yumbaqel_river *river, uint32_t number)
         put(&copy[FIGURES + n + i], river->storage.at[i]);
         put(&copy[FIGURES + 2 * n + i], river->sediment.at[i]);
     }
-    put(&copy[FIGURES + 3 * n], check_of(copy, river));
+    for (i = 0; i < YUMBAQEL_HIGHEST_WORDS(n); i++)
+        put(&copy[FIGURES + 3 * n + i], river->highest.at[i]);
+    put(&copy[FIGURES + YUMBAQEL_COPY_WORDS(n)], check_of(copy, river));
 }
 
 /* The newer of the copies that are whole becomes the river's state; its number, or 0 where none is. */

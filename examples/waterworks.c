@@ -14,7 +14,7 @@
 #include "console.h"
 
 /* What the rivers share, and the reach records, which are of use during a call alone. */
-static uint32_t words[YUMBAQEL_COPY_WORDS(YUMBAQEL_MOST_SEGMENTS)];
+static uint32_t words[YUMBAQEL_SHARED_WORDS];
 static uint64_t wide_words[YUMBAQEL_WIDE_WORDS(YUMBAQEL_MOST_SEGMENTS)];
 static struct yumbaqel_reach reaches[YUMBAQEL_MOST_REACHES];
 static struct yumbaqel_shared shared;
@@ -24,6 +24,7 @@ static struct stream {
     struct yumbaqel_river river;
     uint8_t sheet[YUMBAQEL_LONGEST_SHEET + 1];
     uint32_t words[YUMBAQEL_LOADING_WORDS(YUMBAQEL_MOST_SEGMENTS)];
+    uint32_t highest_words[YUMBAQEL_BLOCKS];
     uint32_t set_words[YUMBAQEL_SET_WORDS(YUMBAQEL_MOST_SEGMENTS)];
     uint32_t row_words[YUMBAQEL_ROW_WORDS(YUMBAQEL_MOST_ROWS)];
     unsigned which;                /* its place among the arguments, from 1 */
@@ -50,7 +51,7 @@ static int open_stream(uint32_t number, unsigned which, char **words_of)
     const size_t length = read_bytes(words_of[0], stream->sheet, sizeof stream->sheet);
     struct yumbaqel_refusal told;
     uint32_t u = 0;
-    yumbaqel_shared_lend_river(&shared, river, YUMBAQEL_MOST_SEGMENTS, stream->words);
+    yumbaqel_shared_lend_river(&shared, river, YUMBAQEL_MOST_SEGMENTS, stream->words, stream->highest_words);
     yumbaqel_river_lend_set(river, YUMBAQEL_MOST_SEGMENTS, stream->set_words);
     yumbaqel_river_lend_rows(river, YUMBAQEL_MOST_ROWS, stream->row_words);
     told = yumbaqel_shared_open(&shared, number, river, stream->sheet, length, reaches, YUMBAQEL_MOST_REACHES, u);

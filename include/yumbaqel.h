@@ -2,8 +2,8 @@
  * Yumbaqel: the OTIS river inside an intake gate controller, for C99 and C++.
  *
  * Link libyumbaqel.a, which `rt staticlib yumbaqel` writes (docs/C.md). Every function below is total: it takes any bytes, figures and
- * lengths, and its outcome is proved to be the one that documents 01 (docs/01-scope.md) and 02 (docs/02-change-requests.md, 1 to 3)
- * set out.
+ * lengths, and its outcome is proved to be the one that documents 01 (docs/01-scope.md) and 02 (docs/02-change-requests.md, 1 to 3 and
+ * 5) set out.
  *
  * What the caller owes, for every function:
  *   - each pointer is not null and aligned for what it points at, also where its length is 0;
@@ -14,8 +14,9 @@
  * What every call does: what it hands out comes first among its parameters. It writes *number, *kind and *place. An accepted call has
  * number 0, kind 0 and place 0. A refused call has the refusal's number (enum yumbaqel_number) and its place: what kind it is (enum
  * yumbaqel_kind) and which one, from 1; and it writes nothing else, no list, no value. An accepted call writes the values named below
- * and the first entries of the lists named below, one for each segment (reach, row), and leaves what lies behind them. Of the lists that
- * rivers share a start or step writes the river's own stretch, an opening the first entries, those of all open rivers; the rest is left.
+ * and the first entries of the lists named below, one for each segment (reach, row; sixteen segments begun), and leaves what lies behind
+ * them. Of the lists that rivers share a start or step writes the river's own stretch, an opening the first entries, those of all open
+ * rivers; the rest is left.
  *
  * The library keeps nothing between calls, allocates nothing, calls nothing of its caller's, and needs at most YUMBAQEL_STACK bytes of
  * stack. Calls on different lists may run at once.
@@ -30,7 +31,7 @@
 extern "C" {
 #endif
 
-#define YUMBAQEL_VERSION 20200           /* of this header, 2.2.0: major x 10,000 + minor x 100 + patch */
+#define YUMBAQEL_VERSION 30000           /* of this header, 3.0.0: major x 10,000 + minor x 100 + patch */
 #define YUMBAQEL_SCALE 1073741824        /* one whole, 2^30 */
 #define YUMBAQEL_HIGHEST 1000000000      /* the highest concentration, ng/L */
 #define YUMBAQEL_MOST_SEGMENTS 1024
@@ -40,6 +41,7 @@ extern "C" {
 #define YUMBAQEL_MOST_GAUGES 32
 #define YUMBAQEL_MOST_FLOW_ROWS 64
 #define YUMBAQEL_MOST_RIVERS 8           /* that share lists */
+#define YUMBAQEL_BLOCKS 64               /* highest figures of the longest river, one for each sixteen segments */
 #define YUMBAQEL_NO_FLOW 65              /* the number of no flow: a sheet has the flow at the top, 0, and those of its rows, up to 64 */
 #define YUMBAQEL_LONGEST_SHEET 6824      /* bytes */
 #define YUMBAQEL_STACK 8192              /* bytes of stack that any call needs at most, x86-64 */
@@ -48,7 +50,8 @@ extern "C" {
  * The numbered refusals, in the documents' words. Where the sheet has flow rows (it is marked OTR2), these are its last section, and 2 and
  * 4 speak of the last flow row. 16 is looked at after 9. Each of 10 to 12 is looked for in the flow at the top and then in that of every
  * flow row, before the next. 13 is also a flow row's number past the rows, and in a step 14 looks at both sets. 17 is looked at after 12,
- * 18 before 13; 13 is also a shared list of fewer than 1,024 entries.
+ * 18 before 13; 13 is also a shared list of fewer than 1,024 entries, and fewer highest figures than sixteen segments are begun, at which
+ * 14 does not look.
  */
 enum yumbaqel_number {
     YUMBAQEL_ACCEPTED = 0,
@@ -156,8 +159,9 @@ void yumbaqel_load(
 
 /*
  * A start of n segments. Tests 13 and 14. Accepted, it writes the first n entries of channel, storage and sediment (C, Z and W: the
- * start figure), *upstream (the state's U: u, which is U at step 0) and *done (the state's count of steps: 0). It looks at nothing that
- * it overwrites. Of a sheet's flows any one's set may be lent to it, and so to a report.
+ * start figure), the first entries of highest (the highest channel figure of each sixteen segments begun, for yumbaqel_search), *upstream
+ * (the state's U: u, which is U at step 0) and *done (the state's count of steps: 0). It looks at nothing that it overwrites. Of a sheet's
+ * flows any one's set may be lent to it, and so to a report.
  */
 void yumbaqel_start(
     uint32_t *number, uint32_t *kind, uint32_t *place,
@@ -168,15 +172,15 @@ void yumbaqel_start(
     const uint32_t *s, size_t s_length, const uint32_t *cl, size_t cl_length, const uint32_t *cb, size_t cb_length,
     const uint32_t *kd, size_t kd_length, const uint32_t *start, size_t start_length,
     uint32_t *channel, size_t channel_length, uint32_t *storage, size_t storage_length,
-    uint32_t *sediment, size_t sediment_length, uint32_t *upstream, uint32_t *done,
+    uint32_t *sediment, size_t sediment_length, uint32_t *highest, size_t highest_length, uint32_t *upstream, uint32_t *done,
     uint32_t u);
 
 /*
  * A step of n segments. Tests 13 to 15; u is U' and steps is M. It is lent two sets: e0 to s0 is that of its old side, the flow in force
  * at step *done, and e to s that of its new side, the flow in force at step *done + 1 (yumbaqel_flow). Where the two are one flow the same
- * lists may be lent twice, as they are only read. Accepted, it writes the first n entries of channel, storage and sediment, *upstream (u)
- * and *done (one more), and the first n entries of the working lists p and y, whose content is of no matter before and of no use
- * afterwards.
+ * lists may be lent twice, as they are only read. Accepted, it writes the first n entries of channel, storage and sediment, the first
+ * entries of highest (those of the new figures, whatever stood there), *upstream (u) and *done (one more), and the first n entries of the
+ * working lists p and y, whose content is of no matter before and of no use afterwards.
  */
 void yumbaqel_step(
     uint32_t *number, uint32_t *kind, uint32_t *place,
@@ -191,7 +195,7 @@ void yumbaqel_step(
     const uint32_t *s, size_t s_length, const uint32_t *cl, size_t cl_length, const uint32_t *cb, size_t cb_length,
     const uint32_t *kd, size_t kd_length, const uint32_t *start, size_t start_length,
     uint32_t *channel, size_t channel_length, uint32_t *storage, size_t storage_length,
-    uint32_t *sediment, size_t sediment_length, uint32_t *upstream, uint32_t *done,
+    uint32_t *sediment, size_t sediment_length, uint32_t *highest, size_t highest_length, uint32_t *upstream, uint32_t *done,
     uint64_t *p, size_t p_length, uint64_t *y, size_t y_length,
     uint32_t u, uint32_t steps);
 
@@ -211,15 +215,28 @@ void yumbaqel_report(
     const uint32_t *sediment, size_t sediment_length, uint32_t upstream, uint32_t done,
     uint32_t segment);
 
+/*
+ * A search: is any of n segments above the limit, which may be any figure? Tests 13 alone. It looks at the highest figures and then only at
+ * the segments of a block of sixteen whose highest figure is above the limit. Accepted, it writes *segment: the number of a segment, from
+ * 1, that is above the limit and in such a block, or 0 where there is none. Which one it names, where there are several, is left open. Lent
+ * channel and highest as a start or step left them, it says 0 just where no segment is above the limit. It writes no list.
+ */
+void yumbaqel_search(
+    uint32_t *number, uint32_t *kind, uint32_t *place, uint32_t *segment,
+    uint32_t n,
+    const uint32_t *channel, size_t channel_length, const uint32_t *highest, size_t highest_length,
+    uint32_t limit);
+
 /* ---- Several rivers on shared lists. Up to eight are open at once, each under a number from 1 to 8 (river), with its own stretch of
-   three shared lists (channel, storage, sediment), of 1,024 segments in all. Their other lists are lent as before. The caller keeps the
-   table, as the call before left it; it begins with no river open. Only 17 and 18 depend on the other rivers. */
+   three shared lists (channel, storage, sediment), of 1,024 segments in all. Their other lists are lent as before, and so are the highest
+   figures, a list of each river's own whose blocks count from its own first segment. The caller keeps the table, as the call before left
+   it; it begins with no river open. Only 17 and 18 depend on the other rivers. */
 
 /*
  * An opening: a loading, for one of the sheet's flows, and a start in one call; u is U at step 0. Tests 1 to 12 and 16 as a loading, then
- * 17, 18 of the table alone, 13 and 14. Accepted, it writes what a loading writes, the number's slot, and the shared lists: the open
- * rivers' segments come to the front, in their order (the first of their slots follows them), the new river's stand behind them with the
- * start figure, and what lies behind these stays.
+ * 17, 18 of the table alone, 13 and 14. Accepted, it writes what a loading writes, the new river's highest figures, the number's slot, and
+ * the shared lists: the open rivers' segments come to the front, in their order (the first of their slots follows them), the new river's
+ * stand behind them with the start figure, and what lies behind these stays. The others' highest figures stay true.
  */
 void yumbaqel_pool_open(
     uint32_t *number, uint32_t *kind, uint32_t *place, struct yumbaqel_loaded *loaded,
@@ -231,11 +248,11 @@ void yumbaqel_pool_open(
     uint32_t *s, size_t s_length, uint32_t *cl, size_t cl_length, uint32_t *cb, size_t cb_length,
     uint32_t *kd, size_t kd_length, uint32_t *start, size_t start_length,
     uint32_t *channel, size_t channel_length, uint32_t *storage, size_t storage_length,
-    uint32_t *sediment, size_t sediment_length, struct yumbaqel_table *table,
+    uint32_t *sediment, size_t sediment_length, uint32_t *highest, size_t highest_length, struct yumbaqel_table *table,
     uint32_t u);
 
-/* A start of an open river. Tests 18, 13 and 14. Accepted, it writes the river's stretch of the shared lists, and of its slot upstream
-   and steps, as yumbaqel_start writes its lists, *upstream and *done. */
+/* A start of an open river. Tests 18, 13 and 14. Accepted, it writes the river's stretch of the shared lists, its highest figures, and of
+   its slot upstream and steps, as yumbaqel_start writes its lists, *upstream and *done. */
 void yumbaqel_pool_start(
     uint32_t *number, uint32_t *kind, uint32_t *place,
     uint32_t river,
@@ -245,11 +262,11 @@ void yumbaqel_pool_start(
     const uint32_t *s, size_t s_length, const uint32_t *cl, size_t cl_length, const uint32_t *cb, size_t cb_length,
     const uint32_t *kd, size_t kd_length, const uint32_t *start, size_t start_length,
     uint32_t *channel, size_t channel_length, uint32_t *storage, size_t storage_length,
-    uint32_t *sediment, size_t sediment_length, struct yumbaqel_table *table,
+    uint32_t *sediment, size_t sediment_length, uint32_t *highest, size_t highest_length, struct yumbaqel_table *table,
     uint32_t u);
 
-/* A step of an open river. Tests 18 and 13 to 15. Accepted, it writes the river's stretch of the shared lists, of its slot upstream and
-   steps, and the working lists, as yumbaqel_step does. The working lists may be the same for all rivers. */
+/* A step of an open river. Tests 18 and 13 to 15. Accepted, it writes the river's stretch of the shared lists, its highest figures, of its
+   slot upstream and steps, and the working lists, as yumbaqel_step does. The working lists may be the same for all rivers. */
 void yumbaqel_pool_step(
     uint32_t *number, uint32_t *kind, uint32_t *place,
     uint32_t river,
@@ -263,7 +280,7 @@ void yumbaqel_pool_step(
     const uint32_t *s, size_t s_length, const uint32_t *cl, size_t cl_length, const uint32_t *cb, size_t cb_length,
     const uint32_t *kd, size_t kd_length, const uint32_t *start, size_t start_length,
     uint32_t *channel, size_t channel_length, uint32_t *storage, size_t storage_length,
-    uint32_t *sediment, size_t sediment_length, struct yumbaqel_table *table,
+    uint32_t *sediment, size_t sediment_length, uint32_t *highest, size_t highest_length, struct yumbaqel_table *table,
     uint64_t *p, size_t p_length, uint64_t *y, size_t y_length,
     uint32_t u, uint32_t steps);
 
@@ -280,6 +297,14 @@ void yumbaqel_pool_report(
     const uint32_t *channel, size_t channel_length, const uint32_t *storage, size_t storage_length,
     const uint32_t *sediment, size_t sediment_length, const struct yumbaqel_table *table,
     uint32_t segment);
+
+/* A search of an open river, as yumbaqel_search of its stretch; segments count from 1 in its own river. Tests 18 and 13. */
+void yumbaqel_pool_search(
+    uint32_t *number, uint32_t *kind, uint32_t *place, uint32_t *segment,
+    uint32_t river,
+    const uint32_t *channel, size_t channel_length, const uint32_t *highest, size_t highest_length,
+    const struct yumbaqel_table *table,
+    uint32_t limit);
 
 /* Closes a river. Tests 18 alone. Accepted, it writes 0 to its slot's opened; its segments are used again by later openings. */
 void yumbaqel_pool_close(uint32_t *number, uint32_t *kind, uint32_t *place, uint32_t river, struct yumbaqel_table *table);
@@ -337,11 +362,13 @@ struct yumbaqel_set {
     uint32_t flow;                 /* the number of the flow that it was loaded for, or YUMBAQEL_NO_FLOW */
 };
 
-/* What the calls are lent: the lists of a loading, the state, the working lists, the sheet and its rows; and what a loading handed out. */
+/* What the calls are lent: the lists of a loading, the state, the highest figures, the working lists, the sheet and its rows; and what a
+   loading handed out. */
 struct yumbaqel_river {
     struct yumbaqel_set sets[2];   /* where a flow row begins to hold a step needs two; without flow rows the first one serves both sides */
     struct yumbaqel_list cl, cb, kd, start;
     struct yumbaqel_list channel, storage, sediment;
+    struct yumbaqel_list highest;  /* the highest channel figure of each sixteen segments begun, which start and step keep true */
     uint32_t upstream, done;
     struct yumbaqel_wide_list p, y;
     struct yumbaqel_loaded loaded;
@@ -353,7 +380,7 @@ struct yumbaqel_river {
 };
 
 /* What the rivers of a pool share: the state lists, working lists, and the table. Each river has a struct of its own beside it, for the
-   lists of its opening. */
+   lists of its opening and its highest figures. */
 struct yumbaqel_shared {
     struct yumbaqel_list channel, storage, sediment;
     struct yumbaqel_wide_list p, y;
@@ -369,14 +396,17 @@ struct yumbaqel_figures {
     uint64_t sediment;             /* Kd x W */
 };
 
-/* Entries to lend: to a river of this many segments, to one of a pool (the lists of its loading), for its second set, to a copy of one, to
-   either's working lists; and for this many boundary rows. */
-#define YUMBAQEL_WORDS(segments) (17 * (segments))
+/* Entries to lend: for the highest figures of this many segments; to a river of so many, to one of a pool (the lists of its loading), for
+   its second set, to a copy of one (state and highest figures), to either's working lists; for this many boundary rows; and for the three
+   lists that rivers share. */
+#define YUMBAQEL_HIGHEST_WORDS(segments) (((segments) + 15) / 16)
+#define YUMBAQEL_WORDS(segments) (17 * (segments) + YUMBAQEL_HIGHEST_WORDS(segments))
 #define YUMBAQEL_LOADING_WORDS(segments) (14 * (segments))
 #define YUMBAQEL_SET_WORDS(segments) (10 * (segments))
-#define YUMBAQEL_COPY_WORDS(segments) (3 * (segments))
+#define YUMBAQEL_COPY_WORDS(segments) (3 * (segments) + YUMBAQEL_HIGHEST_WORDS(segments))
 #define YUMBAQEL_WIDE_WORDS(segments) (2 * (segments))
 #define YUMBAQEL_ROW_WORDS(rows) (2 * (rows))
+#define YUMBAQEL_SHARED_WORDS 3072
 
 /* Divides words among lists of this length each. */
 static inline void yumbaqel_divide(struct yumbaqel_list *const *lists, size_t count, size_t length, uint32_t *words)
@@ -397,12 +427,21 @@ static inline void yumbaqel_set_lend(struct yumbaqel_set *set, size_t segments, 
     set->flow = YUMBAQEL_NO_FLOW;
 }
 
-/* Lends a river lists for its state and its working lists: YUMBAQEL_COPY_WORDS(segments) and YUMBAQEL_WIDE_WORDS(segments) entries.
-   They hold no state yet. */
+/* Lends a river YUMBAQEL_HIGHEST_WORDS(segments) entries for its highest figures. No two rivers share them: each start and step writes
+   its own river's. */
+static inline void yumbaqel_river_lend_highest(struct yumbaqel_river *river, size_t segments, uint32_t *words)
+{
+    river->highest.at = words;
+    river->highest.length = YUMBAQEL_HIGHEST_WORDS(segments);
+}
+
+/* Lends a river lists for its state, with the highest figures, which are true of that state alone, and its working lists:
+   YUMBAQEL_COPY_WORDS(segments) and YUMBAQEL_WIDE_WORDS(segments) entries. They hold no state yet. */
 static inline void yumbaqel_river_lend_state(struct yumbaqel_river *river, size_t segments, uint32_t *words, uint64_t *wide_words)
 {
     struct yumbaqel_list *const lists[] = {&river->channel, &river->storage, &river->sediment};
     yumbaqel_divide(lists, sizeof lists / sizeof *lists, segments, words);
+    yumbaqel_river_lend_highest(river, segments, words + 3 * segments);
     river->upstream = 0;
     river->done = 0;
     river->p.at = wide_words;
@@ -569,7 +608,7 @@ static inline struct yumbaqel_refusal yumbaqel_river_start(struct yumbaqel_river
 {
     struct yumbaqel_refusal told;
     yumbaqel_start(&told.number, &told.kind, &told.place, river->loaded.segments, YUMBAQEL_SET(&river->sets[0]), YUMBAQEL_OTHERS(river),
-                   YUMBAQEL_FIGURES(river), &river->upstream, &river->done, u);
+                   YUMBAQEL_FIGURES(river), river->highest.at, river->highest.length, &river->upstream, &river->done, u);
     return told;
 }
 
@@ -584,7 +623,7 @@ static inline struct yumbaqel_refusal yumbaqel_river_step(struct yumbaqel_river 
         return told;
     yumbaqel_step(&told.number, &told.kind, &told.place, river->loaded.segments,
                   YUMBAQEL_SET(old_set), YUMBAQEL_SET(new_set), YUMBAQEL_OTHERS(river),
-                  YUMBAQEL_FIGURES(river), &river->upstream, &river->done,
+                  YUMBAQEL_FIGURES(river), river->highest.at, river->highest.length, &river->upstream, &river->done,
                   river->p.at, river->p.length, river->y.at, river->y.length, u, river->loaded.steps);
     return told;
 }
@@ -600,11 +639,21 @@ static inline struct yumbaqel_refusal yumbaqel_river_report(
     return told;
 }
 
-/* Makes a copy of a loaded river that shares the lists of its loading, its sheet and its rows, which steps only read, and has state and
-   working lists of its own: YUMBAQEL_COPY_WORDS(segments) and YUMBAQEL_WIDE_WORDS(segments) entries. It has no state yet. When the
-   river is loaded anew, its copies are to be made anew. Where the sheet has flow rows the river loads its sets while it runs, and a copy
-   is given none: it can hold a state, and its starts, steps and reports are refused 13. A river that is to run beside it is lent lists of
-   its own and loaded from the same sheet. */
+/* A search of the river: is any of it above the limit? Accepted, it writes *segment: 0 where none is, else the number of a segment that is,
+   from 1. */
+static inline struct yumbaqel_refusal yumbaqel_river_search(const struct yumbaqel_river *river, uint32_t limit, uint32_t *segment)
+{
+    struct yumbaqel_refusal told;
+    yumbaqel_search(&told.number, &told.kind, &told.place, segment, river->loaded.segments,
+                    river->channel.at, river->channel.length, river->highest.at, river->highest.length, limit);
+    return told;
+}
+
+/* Makes a copy of a loaded river that shares the lists of its loading, its sheet and its rows, which steps only read, and has state,
+   highest figures and working lists of its own: YUMBAQEL_COPY_WORDS(segments) and YUMBAQEL_WIDE_WORDS(segments) entries. It has no state
+   yet. When the river is loaded anew, its copies are to be made anew. Where the sheet has flow rows the river loads its sets while it runs,
+   and a copy is given none: it can hold a state and be searched, and its starts, steps and reports are refused 13. A river that is to run
+   beside it is lent lists of its own and loaded from the same sheet. */
 static inline void yumbaqel_river_lend_copy(
     struct yumbaqel_river *copy, const struct yumbaqel_river *river, size_t segments, uint32_t *words, uint64_t *wide_words)
 {
@@ -615,9 +664,9 @@ static inline void yumbaqel_river_lend_copy(
         yumbaqel_set_lend(&copy->sets[0], 0, words);
 }
 
-/* Copies the state of a river, which is C, Z and W, U and the count of steps, into the lists of another that is loaded with as many
-   segments. Else, or where a list is shorter than the river or the river has no segment or over 1,024, it is refused 13 and writes
-   nothing. */
+/* Copies the state of a river, which is C, Z and W, U and the count of steps, and its highest figures, so that a search of the copy says
+   what one of the river would, into the lists of another that is loaded with as many segments. Else, or where a list is shorter than the
+   river or the river has no segment or over 1,024, it is refused 13 and writes nothing. */
 static inline struct yumbaqel_refusal yumbaqel_river_copy_state(struct yumbaqel_river *to, const struct yumbaqel_river *from)
 {
     struct yumbaqel_refusal told = {0, 0, 0};
@@ -625,7 +674,8 @@ static inline struct yumbaqel_refusal yumbaqel_river_copy_state(struct yumbaqel_
     uint32_t i;
     if (n == 0 || n > YUMBAQEL_MOST_SEGMENTS || to->loaded.segments != n
         || from->channel.length < n || from->storage.length < n || from->sediment.length < n
-        || to->channel.length < n || to->storage.length < n || to->sediment.length < n) {
+        || to->channel.length < n || to->storage.length < n || to->sediment.length < n
+        || from->highest.length < YUMBAQEL_HIGHEST_WORDS(n) || to->highest.length < YUMBAQEL_HIGHEST_WORDS(n)) {
         told.number = YUMBAQEL_SHORT_LIST;
         return told;
     }
@@ -634,6 +684,8 @@ static inline struct yumbaqel_refusal yumbaqel_river_copy_state(struct yumbaqel_
         to->storage.at[i] = from->storage.at[i];
         to->sediment.at[i] = from->sediment.at[i];
     }
+    for (i = 0; i < YUMBAQEL_HIGHEST_WORDS(n); i++)
+        to->highest.at[i] = from->highest.at[i];
     to->upstream = from->upstream;
     to->done = from->done;
     return told;
@@ -641,8 +693,8 @@ static inline struct yumbaqel_refusal yumbaqel_river_copy_state(struct yumbaqel_
 
 /* ---- Rivers of a pool. A river's number is the caller's choice, and its struct is handed in beside it, the same at every call. */
 
-/* Lends YUMBAQEL_COPY_WORDS(YUMBAQEL_MOST_SEGMENTS) entries for the shared lists and YUMBAQEL_WIDE_WORDS(YUMBAQEL_MOST_SEGMENTS) for the
-   working lists. No river is open. */
+/* Lends YUMBAQEL_SHARED_WORDS entries for the shared lists and YUMBAQEL_WIDE_WORDS(YUMBAQEL_MOST_SEGMENTS) for the working lists. No river
+   is open. */
 static inline void yumbaqel_shared_lend(struct yumbaqel_shared *shared, uint32_t *words, uint64_t *wide_words)
 {
     struct yumbaqel_list *const lists[] = {&shared->channel, &shared->storage, &shared->sediment};
@@ -655,13 +707,15 @@ static inline void yumbaqel_shared_lend(struct yumbaqel_shared *shared, uint32_t
     shared->table = none;
 }
 
-/* Lends a river of the pool YUMBAQEL_LOADING_WORDS(segments) entries. A second set and rows are lent as to any river. It has no state but
-   in the shared lists: a start, step or report of it alone is refused 13. */
+/* Lends a river of the pool YUMBAQEL_LOADING_WORDS(segments) entries and, for its highest figures, which are its own,
+   YUMBAQEL_HIGHEST_WORDS(segments). A second set and rows are lent as to any river. It has no state but in the shared lists: a start, step,
+   report or search of it alone is refused 13. */
 static inline void yumbaqel_shared_lend_river(
-    const struct yumbaqel_shared *shared, struct yumbaqel_river *river, size_t segments, uint32_t *words)
+    const struct yumbaqel_shared *shared, struct yumbaqel_river *river, size_t segments, uint32_t *words, uint32_t *highest_words)
 {
     yumbaqel_river_lend_loading(river, segments, words);
     yumbaqel_river_lend_state(river, 0, words, shared->p.at);
+    yumbaqel_river_lend_highest(river, segments, highest_words);
 }
 
 /* Takes U and the count of steps over from the table into the river's struct, where the sets of its next step go by them. Of a number
@@ -682,7 +736,7 @@ static inline struct yumbaqel_refusal yumbaqel_shared_open(
     struct yumbaqel_refusal told;
     yumbaqel_pool_open(&told.number, &told.kind, &told.place, &river->loaded, number,
                        sheet, sheet_length, 0, reaches, reaches_length, YUMBAQEL_SET(&river->sets[0]), YUMBAQEL_OTHERS(river),
-                       YUMBAQEL_FIGURES(shared), &shared->table, u);
+                       YUMBAQEL_FIGURES(shared), river->highest.at, river->highest.length, &shared->table, u);
     if (told.number == YUMBAQEL_ACCEPTED) {
         yumbaqel_river_keep(river, sheet, sheet_length);
         yumbaqel_shared_follow(shared, number, river);
@@ -696,7 +750,7 @@ static inline struct yumbaqel_refusal yumbaqel_shared_start(
 {
     struct yumbaqel_refusal told;
     yumbaqel_pool_start(&told.number, &told.kind, &told.place, number, YUMBAQEL_SET(&river->sets[0]), YUMBAQEL_OTHERS(river),
-                        YUMBAQEL_FIGURES(shared), &shared->table, u);
+                        YUMBAQEL_FIGURES(shared), river->highest.at, river->highest.length, &shared->table, u);
     if (told.number == YUMBAQEL_ACCEPTED)
         yumbaqel_shared_follow(shared, number, river);
     return told;
@@ -713,7 +767,7 @@ static inline struct yumbaqel_refusal yumbaqel_shared_step(
         return told;
     yumbaqel_pool_step(&told.number, &told.kind, &told.place, number,
                        YUMBAQEL_SET(old_set), YUMBAQEL_SET(new_set), YUMBAQEL_OTHERS(river),
-                       YUMBAQEL_FIGURES(shared), &shared->table,
+                       YUMBAQEL_FIGURES(shared), river->highest.at, river->highest.length, &shared->table,
                        shared->p.at, shared->p.length, shared->y.at, shared->y.length, u, river->loaded.steps);
     if (told.number == YUMBAQEL_ACCEPTED)
         yumbaqel_shared_follow(shared, number, river);
@@ -729,6 +783,16 @@ static inline struct yumbaqel_refusal yumbaqel_shared_report(
     yumbaqel_pool_report(&told.number, &told.kind, &told.place, &figures->channel, &figures->storage, &figures->sediment,
                          number, YUMBAQEL_SET(&river->sets[0]), YUMBAQEL_OTHERS(river), YUMBAQEL_FIGURES(shared),
                          &shared->table, segment);
+    return told;
+}
+
+/* A search of it: is any of that river above the limit? */
+static inline struct yumbaqel_refusal yumbaqel_shared_search(
+    const struct yumbaqel_shared *shared, uint32_t number, const struct yumbaqel_river *river, uint32_t limit, uint32_t *segment)
+{
+    struct yumbaqel_refusal told;
+    yumbaqel_pool_search(&told.number, &told.kind, &told.place, segment, number, shared->channel.at, shared->channel.length,
+                         river->highest.at, river->highest.length, &shared->table, limit);
     return told;
 }
 

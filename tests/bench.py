@@ -1,4 +1,4 @@
-"""The document's bench figures and the tests 13 to 15, 17 and 18, put to the model itself.
+"""The document's bench figures, the tests 13 to 15, 17 and 18, highest figures and searches, put to the model itself.
 
 Program `river` cannot show these from outside: they hold the model to the document.
 """
@@ -14,8 +14,8 @@ from typing import Any, NamedTuple
 import exact
 import model
 import sheets
-from model import (COLUMNS, HIGHEST, MOST_SEGMENTS, MOST_STEPS, ONE_WHOLE, SET, Lists, Numbers, Pair, Refusal, Segment,
-                   Slot, State)
+from model import (COLUMNS, HIGHEST, MOST_SEGMENTS, MOST_STEPS, NONE_ABOVE, ONE_WHOLE, SET, Lists, Numbers, Pair,
+                   Refusal, Segment, Slot, State)
 from pools import after_closing, after_moving, after_opening, replaced
 
 
@@ -87,25 +87,29 @@ class Bench:
         self.loaded = model.load(self.sheet, self.row, self.lists, self.records)
         self.segments = self.loaded.segments
         self.state = State.of_length(11, 7)
+        self.highest = [sheets.HIGHEST_FIELD, 8]        # 14 skips them, and of 9 segments the first one is written
         self.p, self.y = [0] * 10, [0] * 10
-        self.U, self.M, self.gauge = 7_000, self.loaded.M, 1
-        model.start(self.lists, self.segments, self.state, self.U)
+        self.U, self.M, self.gauge, self.limit = 7_000, self.loaded.M, 1, 2_999
+        model.start(self.lists, self.segments, self.state, self.highest, self.U)
 
     def load(self) -> Any:
         return model.load(self.sheet, self.row, self.lists, self.records)
 
     def start(self) -> Any:
-        return model.start(self.lists, self.segments, self.state, self.U)
+        return model.start(self.lists, self.segments, self.state, self.highest, self.U)
 
     def step(self) -> Any:
-        return model.step(self.old, self.lists, self.segments, self.state, self.p, self.y, self.U, self.M)
+        return model.step(self.old, self.lists, self.segments, self.state, self.highest, self.p, self.y, self.U, self.M)
 
     def report(self) -> Any:
         return model.report(self.lists, self.segments, self.state, self.gauge)
 
+    def search(self) -> Any:
+        return model.search(self.segments, self.state.C, self.highest, self.limit)
+
     def held(self) -> str:
         """Everything that a call may write."""
-        return repr((self.old.column, self.lists.column, self.records, self.state, self.p, self.y))
+        return repr((self.old.column, self.lists.column, self.records, self.state, self.highest, self.p, self.y))
 
 
 Change = Callable[[Bench], None]
@@ -143,6 +147,11 @@ def shortened(name: str) -> Change:
                  "p": bench.p, "y": bench.y}
         del lists[name][bench.segments - 1:]
     return change
+
+
+def no_highest(bench: Bench) -> None:
+    """The list of highest figures cut to one entry less than the river has blocks."""
+    del bench.highest[model.block_count(bench.segments) - 1:]
 
 
 def old_shortened(name: str) -> Change:
@@ -236,6 +245,12 @@ def call_tests() -> Iterator[Check]:
             yield check("U or count of the state", call, change, ACCEPTED if overwritten else NOTHING_14)
     for call in ("start", "step"):
         yield check("U handed", call, given(U=HIGHEST + 1), NOTHING_14)
+        yield check("highest figures too short", call, no_highest, NOTHING_13)
+        yield check("13 of the highest figures before 14", call, both(no_highest, column("Kd", 0, 5_000)), NOTHING_13)
+        yield check("14 skips the highest figures", call, given(highest=[sheets.HIGHEST_FIELD]), ACCEPTED)
+    yield check("13 of the highest figures before 15", "step", both(no_highest, given(M=0)), NOTHING_13)
+    yield check("highest figures too short", "report", no_highest, ACCEPTED)
+    yield from search_call_tests(check)
     for name in ("p", "y"):
         yield check(f"working list {name} too short", "step", shortened(name), NOTHING_13)
     yield check("M 0", "step", given(M=0), NOTHING_15)
@@ -246,6 +261,21 @@ def call_tests() -> Iterator[Check]:
         yield check(f"100,000 steps done, M {M}", "step", both(given(M=M), in_state(count=MOST_STEPS)), wanted)
     for gauge, wanted in ((0, NOTHING_13), (10, NOTHING_13), (9, ACCEPTED)):
         yield check(f"segment {gauge}", "report", given(gauge=gauge), wanted)
+
+
+def search_call_tests(check: Callable[[str, str, Change, Any], Check]) -> Iterator[Check]:
+    """A search tests 13 of its two lists and of the segment count, and nothing else."""
+    yield check("as it is", "search", given(), ACCEPTED)
+    yield check("highest figures too short", "search", no_highest, NOTHING_13)
+    yield check("C too short", "search", shortened("C"), NOTHING_13)
+    for segments in (0, MOST_SEGMENTS + 1, 13):
+        yield check(f"{segments} segments", "search", given(segments=segments), NOTHING_13)
+    for name in ("Z", "W", "e", "Kd", "p"):
+        yield check(f"{name} too short", "search", shortened(name), ACCEPTED)
+    yield check("C too high", "search", state_figure("C", 3), ACCEPTED)
+    yield check("a limit too high", "search", given(limit=sheets.HIGHEST_FIELD), ACCEPTED)
+    yield check("Kd, U and count too high", "search",
+                both(column("Kd", 0, 5_000), in_state(U=HIGHEST + 1, count=MOST_STEPS + 1)), ACCEPTED)
 
 
 def old_set_tests(check: Callable[[str, str, Change, Any], Check]) -> Iterator[Check]:
@@ -447,8 +477,11 @@ def accepted_calls() -> Iterator[Check]:
     yield Check("load: entries past the river", {each[9] for each in bench.lists.column.values()}, {0})
     yield Check("start: entries past the river", bench.state.C[9:], [7, 7])
     yield Check("start: figures", bench.state.W[:9], [1_000] * 3 + [3_000] * 3 + [1_000] * 3)
+    yield Check("start: highest figures", list(bench.highest), [3_000, 8])
+    yield Check("search: the segments above 2,999", bench.search(), {4, 5, 6})
     bench.U = 8_000
     bench.step()
+    yield Check("step: highest figures", list(bench.highest), [max(bench.state.C[:9]), 8])
     yield Check("step: U and count", (bench.state.U, bench.state.count), (8_000, 1))
     yield Check("step: entries past the river", (bench.state.Z[9:], bench.p[9:]), ([7, 7], [0]))
     yield Check("report: Kd x W", bench.report()[2], 5 * bench.state.W[0])
@@ -490,20 +523,62 @@ def pool_tests() -> Iterator[Check]:
     yield Check("a step: Z", lists["Z"], [0, 1, 61, 62, 63, *range(5, 1_026)])
     yield Check("a closing", after_closing(table, 3), [*table[:2], Slot(0, 2, 3, 6, 2), *table[3:]])
 
-    sheet, lists, records = sheets.write(sheets.plain()), Lists(9), [None] * 3
+    sheet, lists, records, high = sheets.write(sheets.plain()), Lists(9), [None] * 3, [2 ** 32 - 1] * 2
     wide = [Slot(1, 1_000, 25, 0, 0), *[closed] * 7]
     full = [Slot(1, 0, 1_016, 0, 0), *[closed] * 7]
     for name, handed, wanted in (
-            ("4 before 17", (9, sheet + b"x", 0, lists, records, 0, wide, HIGHEST + 1), (4, None)),
-            ("17 before 18", (1, sheet, 0, lists, records, 0, wide, HIGHEST + 1), (17, None)),
-            ("17 by one segment", (2, sheet, 0, lists, records, 1_024, full, 0), (17, None)),
-            ("18 before 13", (2, sheet, 1, Lists(8), records, 0, wide, HIGHEST + 1), (18, None)),
-            ("13 of a list before 14", (2, sheet, 0, Lists(8), records, 1_024, table, HIGHEST + 1), (13, None)),
-            ("13 of a row before 14", (2, sheet, 1, lists, records, 1_024, table, HIGHEST + 1), (13, None)),
-            ("13 of a shared list before 14", (2, sheet, 0, lists, records, 1_023, table, HIGHEST + 1), (13, None)),
-            ("14", (2, sheet, 0, lists, records, 1_024, table, HIGHEST + 1), (14, None)),
-            ("accepted", (2, sheet, 0, lists, records, 1_024, table, HIGHEST), ACCEPTED)):
+            ("4 before 17", (9, sheet + b"x", 0, lists, records, 0, [], wide, HIGHEST + 1), (4, None)),
+            ("17 before 18", (1, sheet, 0, lists, records, 0, [], wide, HIGHEST + 1), (17, None)),
+            ("17 by one segment", (2, sheet, 0, lists, records, 1_024, [], full, 0), (17, None)),
+            ("18 before 13", (2, sheet, 1, Lists(8), records, 0, [], wide, HIGHEST + 1), (18, None)),
+            ("18 before 13 of the highest figures", (2, sheet, 0, lists, records, 1_024, [], wide, 0), (18, None)),
+            ("13 of a list before 14", (2, sheet, 0, Lists(8), records, 1_024, high, table, HIGHEST + 1), (13, None)),
+            ("13 of a row before 14", (2, sheet, 1, lists, records, 1_024, high, table, HIGHEST + 1), (13, None)),
+            ("13 of a shared list before 14", (2, sheet, 0, lists, records, 1_023, high, table, HIGHEST + 1),
+             (13, None)),
+            ("13 of the highest figures before 14", (2, sheet, 0, lists, records, 1_024, [], table, HIGHEST + 1),
+             (13, None)),
+            ("14", (2, sheet, 0, lists, records, 1_024, high, table, HIGHEST + 1), (14, None)),
+            ("accepted", (2, sheet, 0, lists, records, 1_024, high, table, HIGHEST), ACCEPTED)):
         yield Check(f"an opening: {name}", told(model.Pool().open, *handed), wanted)
+    yield Check("an opening: the highest figures", high, [3_000, 2 ** 32 - 1])
+
+
+def search_bench() -> Iterator[Check]:
+    """The lines of the proved table SearchBench (crates/model/specs), and what searches may answer."""
+    blocks = [model.block_count(n) for n in (1, 15, 16, 17, 31, 32, 33, 1_023, 1_024)]
+    yield Check("search bench: blocks", blocks, [1, 1, 1, 2, 2, 2, 3, 64, 64])
+    counted = list(range(10, 50))
+    for n, wanted in ((1, [10]), (16, [25]), (17, [25, 26]), (32, [25, 41]), (33, [25, 41, 42])):
+        yield Check(f"search bench: of {n} segments", model.highest_figures(counted[:n]), wanted)
+    yield Check("search bench: not the last", model.highest_figures([5, 9, 2]), [9])
+
+    lists, highest = Lists(1), [7, 8]
+    lists.fill([Segment(Numbers(0, 0, 0, 8, 80_000_000, 0, 0, 8, 0, 80_000_000), 0, 0, 0, 0)])
+    y = [0]
+    model.step(lists, lists, 1, State([HIGHEST], [HIGHEST], [HIGHEST], HIGHEST), highest, [0], y, HIGHEST, 1)
+    yield Check("search bench: before the cut", y, [HIGHEST + 1])
+    yield Check("search bench: of the cut figures", highest, [HIGHEST, 8])
+
+    C = [1] * 15 + [6] + [9, 2] + [9] * 22      # 18 segments; what lies behind the river is not looked at
+    for name, told, limit, wanted in (
+            ("true figures", [6, 9], 5, {16, 17}), ("at the limit", [6, 9], 6, {17}), ("none", [6, 9], 9, {NONE_ABOVE}),
+            ("one block not entered", [5, 9], 5, {17}), ("no block entered", [5, 5], 5, {NONE_ABOVE}),
+            ("entered for nothing", [2 ** 32 - 1, 5], 6, {NONE_ABOVE}), ("all above 0", [1, 1], 0, set(range(1, 19))),
+            ("the highest limit", [2 ** 32 - 1] * 2, 2 ** 32 - 1, {NONE_ABOVE})):
+        yield Check(f"a search: {name}", model.search(18, C, told, limit), wanted)
+
+    table = [Slot(0, 0, 0, 0, 0)] * 2 + [Slot(1, 1, 2, 5, 3), Slot(1, 3, 0, 5, 3)] + [Slot(0, 0, 0, 0, 0)] * 4
+    pool = model.Pool.of(table, [9, 3, 4, 9], [0] * 4, [0] * 4)
+    for name, number, shared, told, wanted in (
+            ("18 before 13", 2, 0, [], 18), ("13 of the shared list", 3, 1_023, [4], 13),
+            ("13 of the highest figures", 3, 1_024, [], 13), ("no segment", 4, 1_024, [4], 13),
+            ("on its stretch", 3, 1_024, [4], {2})):
+        try:
+            found: Any = pool.search(number, shared, told, table, 3)
+        except Refusal as refusal:
+            found = refusal.number
+        yield Check(f"a search on a pool: {name}", found, wanted)
 
 
 def bracket_tests() -> Iterator[Check]:
@@ -532,4 +607,5 @@ def checks() -> Iterator[Check]:
     yield from clamp_tests()
     yield from pair_tests()
     yield from pool_tests()
+    yield from search_bench()
     yield from bracket_tests()

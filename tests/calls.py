@@ -18,11 +18,20 @@ from model import (COLUMNS, HIGHEST, HIGHEST_KD, MOST_SEGMENTS, MOST_STEPS, ONE_
                    row_count_at)
 from sheets import HIGHEST_FIELD
 
-LISTS = (*OLD, *COLUMNS, *FIGURES, *WORKING)
+MOVED = (*FIGURES, "highest")       # the lists that start and step leave for later calls
+SEARCHED = ("C", "highest")
+LISTS = (*OLD, *COLUMNS, *MOVED, *WORKING)
 ANSWER = ("number", "kind", "place")
 ACCEPTED = (0, None)
+ABOVE = (0, "above")                # of an accepted search that names a segment
 
 Answer = tuple[int, Optional[str]]  # a refusal's number, 0 if accepted, and the kind of its place
+Told = dict[str, int]               # lengths that a call is told, where they are not the lists' own
+
+
+def entries(name: str, n: int) -> int:
+    """How many entries of a list 13 wants for n segments."""
+    return model.block_count(n) if name == "highest" else n
 
 
 class Difference(Exception):
@@ -88,6 +97,10 @@ class Shelf:
     def part(self, name: str, length: int) -> Slice:
         return Slice(self.buffers[name], length)
 
+    def lent(self, name: str, told: Told) -> Slice:
+        """A list at the length that a call is told."""
+        return self.part(name, told.get(name, self.buffers[name].length))
+
     def compare(self, what: str) -> None:
         """Every byte on the shelf is as it must be."""
         for name, buffer in self.buffers.items():
@@ -114,6 +127,7 @@ class Caller:
         self.shelf.add("z", [0])
         self.shelf.add("kdw", [0], 8)
         self.shelf.add("u", [0])
+        self.shelf.add("segment", [0])
         self.shelf.add("loaded", [0] * len(model.Loaded._fields))
 
     def dirty(self, *names: str) -> None:
@@ -124,14 +138,25 @@ class Caller:
     def references(self) -> list[Buffer]:
         return [self.shelf.buffers[name] for name in ANSWER]
 
-    def settle(self, name: str, refusal: Optional[model.Refusal], what: str) -> bool:
+    def settle(self, name: str, refusal: Optional[model.Refusal], what: str, accepted: Answer = ACCEPTED) -> bool:
         """Compares everything after a call; says whether it was accepted."""
         told = place_of(refusal)
         for each, figure in zip(ANSWER, told):
             self.shelf.content[each] = [figure]
         self.shelf.compare(f"{name}, {what}, which answers {told}")
-        self.tally.take(name, (told[0], KINDS[told[1]]))
+        self.tally.take(name, accepted if refusal is None else (told[0], KINDS[told[1]]))
         return refusal is None
+
+    def settle_search(self, name: str, allowed: set[int], refusal: Optional[model.Refusal], what: str
+                      ) -> Optional[int]:
+        """The same after a search, which may name any of those allowed; what it named, if it was accepted."""
+        found = self.shelf.buffers["segment"].content()[0]
+        if refusal is None:
+            if found not in allowed:
+                raise Difference(f"{name}, {what}: segment {found}, not one of {sorted(allowed)[:20]}")
+            self.shelf.content["segment"] = [found]
+        accepted = self.settle(name, refusal, what, ACCEPTED if found == model.NONE_ABOVE else ABOVE)
+        return found if accepted else None
 
     def lend_columns(self, lengths: list[int]) -> None:
         """The fourteen lists, with any content."""
@@ -237,7 +262,20 @@ class Caller:
         return shelf.content["u"][0] if accepted else None
 
 
-# Runs: one accepted loading, then starts, steps and reports, refused ones included
+def hold_search(found: Optional[int], figures: list[int], limit: int) -> None:
+    """Of lists as a start or step left them a search says none exactly when no segment is above."""
+    if (found == model.NONE_ABOVE) != all(figure <= limit for figure in figures):
+        raise Difference(f"limit {limit}: a search finds {found} in a river of up to {max(figures)}")
+
+
+def some_limit(rng: random.Random, figures: list[int]) -> int:
+    """A figure of the river or a neighbour of one, or a limit of limits."""
+    figure = rng.choice((max(figures), min(figures), rng.choice(figures)))
+    near = rng.choice((figure, figure, max(figure - 1, 0), min(figure + 1, HIGHEST_FIELD)))
+    return rng.choice((near, near, near, 0, HIGHEST, HIGHEST_FIELD, rng.randint(0, HIGHEST)))
+
+
+# Runs: one accepted loading, then starts, steps, reports and searches, refused ones included
 
 
 class Change(NamedTuple):
@@ -246,6 +284,17 @@ class Change(NamedTuple):
     name: str
     at: int
     figure: int
+
+
+class Lent(NamedTuple):
+    """The lists of a call and the state as the model takes them."""
+
+    old: model.Lists
+    lists: model.Lists
+    state: model.State
+    highest: list[int]
+    p: list[int]
+    y: list[int]
 
 
 class Run(Caller):
@@ -264,8 +313,8 @@ class Run(Caller):
         self.columns_of = self.load_set(rng.randint(0, len(self.found.flow_rows)))
         self.old_of = None
         self.steps = self.found.header.M
-        for name in FIGURES:
-            self.shelf.add(name, [draw_word(rng) for _ in range(self.n + rng.randrange(3))])
+        for name in MOVED:
+            self.shelf.add(name, [draw_word(rng) for _ in range(entries(name, self.n) + rng.randrange(3))])
         for name in WORKING:
             self.shelf.add(name, [rng.getrandbits(64) for _ in range(self.n + rng.randrange(3))], 8)
         self.shelf.add("upstream", [draw_word(rng)])
@@ -314,66 +363,82 @@ class Run(Caller):
 
     # the model's call on what is on the shelf, at the lengths told
 
-    def lent(self, told: dict[str, int]) -> tuple[model.Lists, model.Lists, model.State, list[int], list[int]]:
+    def lent(self, told: Told) -> Lent:
         content = {name: self.shelf.content[name][:told.get(name)] for name in LISTS}
         old, lists = model.Lists(0), model.Lists(0)
         old.column = {name: content[old_name] for name, old_name in zip(SET, OLD)}
         lists.column = {name: content[name] for name in COLUMNS}
         state = model.State(content["C"], content["Z"], content["W"], self.shelf.content["upstream"][0],
                             self.shelf.content["done"][0])
-        return old, lists, state, content["p"], content["y"]
+        return Lent(old, lists, state, content["highest"], content["p"], content["y"])
 
-    def keep(self, state: model.State, p: list[int], y: list[int]) -> None:
+    def keep(self, lent: Lent) -> None:
         """What an accepted call leaves on the shelf."""
-        for name, list_ in zip((*FIGURES, *WORKING), (state.C, state.Z, state.W, p, y)):
+        state = lent.state
+        for name, list_ in zip((*MOVED, *WORKING), (state.C, state.Z, state.W, *lent[3:])):
             self.shelf.content[name][:len(list_)] = list_
         self.shelf.content["upstream"] = [state.U]
         self.shelf.content["done"] = [state.count]
 
-    def slices(self, names: tuple[str, ...], told: dict[str, int]) -> list[Slice]:
-        return [self.shelf.part(name, told.get(name, self.shelf.buffers[name].length)) for name in names]
+    def slices(self, names: tuple[str, ...], told: Told) -> list[Slice]:
+        return [self.shelf.lent(name, told) for name in names]
 
-    def start(self, n: int, u: int, told: dict[str, int]) -> bool:
-        _, lists, state, p, y = self.lent(told)
+    def start(self, n: int, u: int, told: Told) -> bool:
+        lent = self.lent(told)
         self.dirty()
         refusal = None
         try:
-            model.start(lists, n, state, u)
-            self.keep(state, p, y)
+            model.start(lent.lists, n, lent.state, lent.highest, u)
+            self.keep(lent)
         except model.Refusal as found:
             refusal = found
-        self.library.call("start", *self.references(), U32(n), *self.slices((*COLUMNS, *FIGURES), told),
+        self.library.call("start", *self.references(), U32(n), *self.slices((*COLUMNS, *MOVED), told),
                           self.shelf.buffers["upstream"], self.shelf.buffers["done"], U32(u))
         return self.settle("start", refusal, f"n {n}, U {u}, told {told}")
 
-    def step(self, n: int, u: int, steps: int, told: dict[str, int]) -> bool:
-        old, lists, state, p, y = self.lent(told)
+    def step(self, n: int, u: int, steps: int, told: Told) -> bool:
+        lent = self.lent(told)
         self.dirty()
         refusal = None
         try:
-            model.step(old, lists, n, state, p, y, u, steps)
-            self.keep(state, p, y)
+            model.step(lent.old, lent.lists, n, lent.state, lent.highest, lent.p, lent.y, u, steps)
+            self.keep(lent)
         except model.Refusal as found:
             refusal = found
-        self.library.call("step", *self.references(), U32(n), *self.slices((*OLD, *COLUMNS, *FIGURES), told),
+        self.library.call("step", *self.references(), U32(n), *self.slices((*OLD, *COLUMNS, *MOVED), told),
                           self.shelf.buffers["upstream"], self.shelf.buffers["done"],
                           *self.slices(WORKING, told), U32(u), U32(steps))
         return self.settle("step", refusal, f"n {n}, U' {u}, M {steps}, told {told}")
 
-    def report(self, n: int, segment: int, told: dict[str, int]) -> bool:
-        _, lists, state, _, _ = self.lent(told)
+    def report(self, n: int, segment: int, told: Told) -> bool:
+        lent = self.lent(told)
         self.dirty("c", "z", "kdw")
         refusal = None
         try:
-            figures = model.report(lists, n, state, segment)
+            figures = model.report(lent.lists, n, lent.state, segment)
             for name, figure in zip(("c", "z", "kdw"), figures):
                 self.shelf.content[name] = [figure]
         except model.Refusal as found:
             refusal = found
         figures = [self.shelf.buffers[name] for name in ("c", "z", "kdw")]
         self.library.call("report", *self.references(), *figures, U32(n),
-                          *self.slices((*COLUMNS, *FIGURES), told), U32(state.U), U32(state.count), U32(segment))
+                          *self.slices((*COLUMNS, *FIGURES), told), U32(lent.state.U), U32(lent.state.count),
+                          U32(segment))
         return self.settle("report", refusal, f"n {n}, segment {segment}, told {told}")
+
+    def search(self, n: int, limit: int, told: Told) -> Optional[int]:
+        """What a search of C and the highest figures names, whatever they hold, if it is accepted."""
+        lent = self.lent(told)
+        self.dirty("segment")
+        allowed: set[int] = set()
+        refusal = None
+        try:
+            allowed = model.search(n, lent.state.C, lent.highest, limit)
+        except model.Refusal as found:
+            refusal = found
+        self.library.call("search", *self.references(), self.shelf.buffers["segment"], U32(n),
+                          *self.slices(SEARCHED, told), U32(limit))
+        return self.settle_search("search", allowed, refusal, f"n {n}, limit {limit}, told {told}")
 
     # the exact river
 
@@ -415,13 +480,13 @@ class Run(Caller):
         return rng.choice((0, max(1, self.n - 1), self.n + 1, self.n + 2, MOST_SEGMENTS, MOST_SEGMENTS + 1,
                            HIGHEST_FIELD))
 
-    def some_told(self, names: tuple[str, ...]) -> dict[str, int]:
+    def some_told(self, names: tuple[str, ...]) -> Told:
         """Nearly always the lists' own lengths; else one or two lists short."""
         rng = self.rng
         if rng.random() < 0.9:
             return {}
-        return {name: rng.choice((0, self.n - 1, rng.randrange(self.n)))
-                for name in rng.sample(names, rng.randint(1, 2))}
+        wanted = {name: entries(name, self.n) for name in rng.sample(names, rng.randint(1, min(2, len(names))))}
+        return {name: rng.choice((0, length - 1, rng.randrange(length))) for name, length in wanted.items()}
 
     def some_u(self) -> int:
         rng = self.rng
@@ -461,6 +526,13 @@ class Run(Caller):
             found.append(Change(name, 0 if name in ("upstream", "done") else at, figure))
         return found
 
+    def some_highest(self, often: float) -> list[Change]:
+        """As often as that a highest figure that is not true, which no call refuses."""
+        rng = self.rng
+        if rng.random() >= often:
+            return []
+        return [Change("highest", rng.randrange(model.block_count(self.n)), draw_word(rng))]
+
     def other_set(self) -> list[Change]:
         """Now and then the set of another river as the old side's: a pair that differs in every number."""
         if self.rng.random() < 0.85:
@@ -481,14 +553,14 @@ class Run(Caller):
         else:
             self.lend_pair(self.any_flow(), self.any_flow())
             own = False
-        changes = self.some_changes() + (self.other_set() if name == "step" else [])
+        changes = self.some_changes() + self.some_highest(0.05) + (self.other_set() if name == "step" else [])
         before = {each: list(shelf.content[each]) for each in (*LISTS, "upstream", "done")}
         for change in changes:
             content = list(shelf.content[change.name])
             content[change.at] = change.figure
             shelf.put(change.name, content)
         if name == "start":
-            told, u = self.some_told((*COLUMNS, *FIGURES)), self.some_u()
+            told, u = self.some_told((*COLUMNS, *MOVED)), self.some_u()
             accepted = self.start(n, u, told)
         elif name == "step":
             told, u = self.some_told(LISTS), self.some_u()
@@ -504,10 +576,23 @@ class Run(Caller):
         elif accepted and name == "step":
             self.move(u)
 
+    def one_search(self) -> None:
+        """A search of the lists as they were left, or with a highest figure that is not true."""
+        figures, before = self.shelf.content["C"][:self.n], list(self.shelf.content["highest"])
+        n, limit, changes = self.some_n(), some_limit(self.rng, figures), self.some_highest(0.4)
+        for change in changes:
+            self.shelf.put("highest", [*before[:change.at], change.figure, *before[change.at + 1:]])
+        found = self.search(n, limit, self.some_told(SEARCHED))
+        self.shelf.put("highest", before)
+        if found is not None and n == self.n and not changes:
+            hold_search(found, figures, limit)
+
     def go(self, calls: int) -> None:
-        """The first start, with any state before it; then that many calls."""
+        """The first start, with any state before it; then that many calls, and searches between them."""
         if not self.start(self.n, u := sheets.concentration(self.rng), {}):
             raise Difference("a start of a good river is refused")
         self.begin(u)
         for _ in range(calls):
             self.one_call()
+            if self.rng.random() < 0.3:
+                self.one_search()

@@ -23,7 +23,7 @@
 #define CONSTANTS(X) \
     X(YUMBAQEL_VERSION) X(YUMBAQEL_SCALE) X(YUMBAQEL_HIGHEST) X(YUMBAQEL_MOST_SEGMENTS) X(YUMBAQEL_MOST_STEPS) \
     X(YUMBAQEL_MOST_REACHES) X(YUMBAQEL_MOST_ROWS) X(YUMBAQEL_MOST_GAUGES) X(YUMBAQEL_MOST_FLOW_ROWS) X(YUMBAQEL_MOST_RIVERS) \
-    X(YUMBAQEL_NO_FLOW) X(YUMBAQEL_LONGEST_SHEET) X(YUMBAQEL_STACK)
+    X(YUMBAQEL_BLOCKS) X(YUMBAQEL_NO_FLOW) X(YUMBAQEL_LONGEST_SHEET) X(YUMBAQEL_STACK) X(YUMBAQEL_SHARED_WORDS)
 #define ENUMS(X) \
     X(YUMBAQEL_ACCEPTED) X(YUMBAQEL_MARK) X(YUMBAQEL_SHORT_SHEET) X(YUMBAQEL_COUNT) X(YUMBAQEL_LONG_SHEET) X(YUMBAQEL_HEADER) \
     X(YUMBAQEL_REACH_FIELD) X(YUMBAQEL_SEGMENTS) X(YUMBAQEL_BOUNDARY_ROW) X(YUMBAQEL_GAUGE) X(YUMBAQEL_FLOW) X(YUMBAQEL_FACE) \
@@ -31,7 +31,8 @@
     X(YUMBAQEL_NO_ROOM) X(YUMBAQEL_NOT_OPEN) \
     X(YUMBAQEL_NOTHING) X(YUMBAQEL_REACH) X(YUMBAQEL_SEGMENT) X(YUMBAQEL_ROW)
 #define MACROS(X) \
-    X(YUMBAQEL_WORDS) X(YUMBAQEL_LOADING_WORDS) X(YUMBAQEL_SET_WORDS) X(YUMBAQEL_COPY_WORDS) X(YUMBAQEL_WIDE_WORDS) X(YUMBAQEL_ROW_WORDS)
+    X(YUMBAQEL_HIGHEST_WORDS) X(YUMBAQEL_WORDS) X(YUMBAQEL_LOADING_WORDS) X(YUMBAQEL_SET_WORDS) X(YUMBAQEL_COPY_WORDS) \
+    X(YUMBAQEL_WIDE_WORDS) X(YUMBAQEL_ROW_WORDS)
 #define CHECKS(X) X(yumbaqel_reach_has_64_bytes) X(yumbaqel_loaded_has_36_bytes) X(yumbaqel_table_has_160_bytes)
 #define STRUCTS(X) \
     X(yumbaqel_reach) X(yumbaqel_loaded) X(yumbaqel_slot) X(yumbaqel_table) X(yumbaqel_list) X(yumbaqel_wide_list) X(yumbaqel_set) \
@@ -39,7 +40,8 @@
 
 #define SET_LISTS(X, of) X(of, e) X(of, g) X(of, l) X(of, a) X(of, b) X(of, k) X(of, ks) X(of, h) X(of, m) X(of, s)
 #define STATE_LISTS(X, of) X(of, channel) X(of, storage) X(of, sediment)
-#define LISTS(X, of) X(of, cl) X(of, cb) X(of, kd) X(of, start) STATE_LISTS(X, of) X(of, starts) X(of, concentrations)
+#define LISTS(X, of) \
+    X(of, cl) X(of, cb) X(of, kd) X(of, start) STATE_LISTS(X, of) X(of, highest) X(of, starts) X(of, concentrations)
 #define FIELDS(X) \
     X(yumbaqel_reach, segments) X(yumbaqel_reach, dispersion) X(yumbaqel_reach, area) X(yumbaqel_reach, area2) \
     X(yumbaqel_reach, alpha) X(yumbaqel_reach, qin) X(yumbaqel_reach, qout) X(yumbaqel_reach, cl) X(yumbaqel_reach, lambda) \
@@ -59,7 +61,8 @@
     X(yumbaqel_figures, channel) X(yumbaqel_figures, storage) X(yumbaqel_figures, sediment)
 
 #define NUMBER(name) {"number " #name, UNSIGNED(name)},
-#define MACRO(name) {"macro " #name, UNSIGNED(name(1 + 2))},
+#define TRIED(name, figure, sum) {"macro " #name " " #figure, UNSIGNED(name(sum))},
+#define MACRO(name) TRIED(name, 3, 1 + 2) TRIED(name, 16, 15 + 1) TRIED(name, 17, 16 + 1)
 #define CHECK(name) {"type " #name, sizeof(name)},
 #define STRUCT(name) {"struct " #name, sizeof(struct name)},
 #define FIELD(structure, name) {#structure, #name, offsetof(struct structure, name), sizeof(((struct structure *)NULL)->name)},
@@ -117,13 +120,14 @@ static void print_struct(const char *what, const char *structure, const void *at
 #define SHOWN 7                    /* entries of a list that are printed: more than the river has segments */
 #define SHARED_SHOWN 17            /* of a shared list: more than three rivers have */
 #define ROOM 1100                  /* entries of a list: more than a river may have */
+#define HIGHEST_ROOM 69            /* highest figures of as many segments */
 #define ROW_ROOM 16
 
 static uint8_t sheets[3][YUMBAQEL_LONGEST_SHEET + 1];
 static size_t lengths[3];
 static struct yumbaqel_reach reaches[3];
-static uint32_t words[17 * ROOM], copy_words[3 * ROOM], row_words[2 * ROW_ROOM];
-static uint32_t set_words[10 * ROOM], river_words[14 * ROOM], shared_words[3 * ROOM];
+static uint32_t words[17 * ROOM + HIGHEST_ROOM], copy_words[3 * ROOM + HIGHEST_ROOM], row_words[2 * ROW_ROOM];
+static uint32_t set_words[10 * ROOM], river_words[14 * ROOM], shared_words[3 * ROOM], highest_words[2 * HIGHEST_ROOM];
 static uint64_t wide_words[2 * ROOM], copy_wide_words[2 * ROOM], shared_wide_words[2 * ROOM];
 static struct yumbaqel_river rivers[2];
 static struct yumbaqel_shared shared;
@@ -140,6 +144,7 @@ static const struct {
     {"set_words", set_words, SIZE(set_words), sizeof *set_words}, {"river_words", river_words, SIZE(river_words), sizeof *river_words},
     {"shared_words", shared_words, SIZE(shared_words), sizeof *shared_words},
     {"shared_wide_words", shared_wide_words, SIZE(shared_wide_words), sizeof *shared_wide_words},
+    {"highest_words", highest_words, SIZE(highest_words), sizeof *highest_words},
     {"sheet", sheets, SIZE(sheets), sizeof *sheets}};
 
 static void fill(void)
@@ -271,11 +276,14 @@ static int lend(const char *name, struct yumbaqel_river *river, size_t first)
         return 1;
     }
     if (IS("shared_lend_river"))
-        yumbaqel_shared_lend_river(lasting, river, first, river == rivers ? words : river_words);
+        yumbaqel_shared_lend_river(lasting, river, first, river == rivers ? words : river_words,
+                                   river == rivers ? highest_words : highest_words + HIGHEST_ROOM);
     else if (IS("lend_loading"))
         yumbaqel_river_lend_loading(river, first, river_words);
     else if (IS("lend"))
         yumbaqel_river_lend(river, first, words, wide_words);
+    else if (IS("lend_highest"))
+        yumbaqel_river_lend_highest(river, first, highest_words);
     else if (IS("lend_state"))
         yumbaqel_river_lend_state(river, first, copy_words, copy_wide_words);
     else if (IS("set_lend"))
@@ -320,7 +328,7 @@ static int call(const char *name, struct yumbaqel_river *river, uint32_t first, 
     const struct yumbaqel_river *const lasting = river, *const other = &rivers[first % SIZE(rivers)];
     const uint8_t *const sheet = sheets[first % SIZE(sheets)];
     struct yumbaqel_figures figures = {21, 22, 23};
-    uint32_t u = 31;
+    uint32_t u = 31, segment = 51;
     size_t i;
     if (IS("load")) {
         print_told(yumbaqel_river_load(river, sheet, lengths[first], reaches, SIZE(reaches)));
@@ -352,6 +360,9 @@ static int call(const char *name, struct yumbaqel_river *river, uint32_t first, 
     else if (IS("report")) {
         print_told(yumbaqel_river_report(lasting, first, &figures));
         print_struct("reported", "yumbaqel_figures", &figures);
+    } else if (IS("search")) {
+        print_told(yumbaqel_river_search(lasting, first, &segment));
+        printf(" segment %llu\n", UNSIGNED(segment));
     } else if (IS("report_by_macros"))
         report_by_macros(lasting, first);
     else if (IS("copy_state"))
@@ -369,6 +380,7 @@ static int shared_call(const char *name, struct yumbaqel_river *river, const cha
     const size_t which = strcmp(field, "other") == 0 ? 1 : strcmp(field, "third") == 0 ? 2 : 0;
     const uint8_t *const sheet = sheets[which];
     struct yumbaqel_figures figures = {41, 42, 43};
+    uint32_t segment = 61;
     size_t i;
     if (IS("open")) {
         print_told(yumbaqel_shared_open(&shared, number, river, sheet, lengths[which], reaches, SIZE(reaches), second));
@@ -381,6 +393,9 @@ static int shared_call(const char *name, struct yumbaqel_river *river, const cha
     else if (IS("shared_report")) {
         print_told(yumbaqel_shared_report(standing, number, lasting, second, &figures));
         print_struct("reported", "yumbaqel_figures", &figures);
+    } else if (IS("shared_search")) {
+        print_told(yumbaqel_shared_search(standing, number, lasting, second, &segment));
+        printf(" segment %llu\n", UNSIGNED(segment));
     } else if (IS("close"))
         print_told(yumbaqel_shared_close(&shared, number));
     else if (IS("follow"))
@@ -392,7 +407,7 @@ static int shared_call(const char *name, struct yumbaqel_river *river, const cha
     return 1;
 }
 
-/* What no helper does to what the rivers share: a list told shorter, a figure of the table. */
+/* What no helper does to what the rivers share: a list told shorter, a figure put into it, a figure of the table. */
 static int shared_change(const char *name, const char *field, size_t first, uint32_t second)
 {
     size_t i;
@@ -404,6 +419,11 @@ static int shared_change(const char *name, const char *field, size_t first, uint
     for (i = 0; IS("shared_length") && i < SIZE(shared_lists); i++)
         if (strcmp(field, shared_lists[i].name) == 0) {
             list_of(&shared, &shared_lists[i])->length = first;
+            return 1;
+        }
+    for (i = 0; IS("shared_put") && i < SIZE(shared_lists); i++)
+        if (strcmp(field, shared_lists[i].name) == 0) {
+            list_of(&shared, &shared_lists[i])->at[first] = second;
             return 1;
         }
     for (i = 0; IS("slot") && i < SIZE(fields); i++)

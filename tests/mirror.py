@@ -8,8 +8,8 @@ import model
 import sheets
 from calls import place_of
 from library import FIGURES
-from model import (COLUMNS, HIGHEST, HIGHEST_KD, MOST_FLOW_ROWS, MOST_RIVERS, MOST_SEGMENTS, MOST_STEPS, SET, Row, Slot,
-                   Table)
+from model import (COLUMNS, HIGHEST, HIGHEST_KD, MOST_BLOCKS, MOST_FLOW_ROWS, MOST_RIVERS, MOST_SEGMENTS, MOST_STEPS,
+                   SET, Row, Slot, Table, block_count)
 from pools import after_closing, after_moving, after_opening, replaced
 from signatures import MARKS, RESULT_MARK, Signature, recorded
 
@@ -21,28 +21,38 @@ LOADED = dict(zip(("steps", "interval", "segments", "rows_at", "rows", "gauges_a
 OTHER_LISTS = [name.lower() for name in COLUMNS[len(SET):]]
 STATE_LISTS = dict(zip(("channel", "storage", "sediment"), FIGURES))
 ROW_LISTS = ("starts", "concentrations")
-LISTS = (*OTHER_LISTS, *STATE_LISTS, *ROW_LISTS)
+LISTS = (*OTHER_LISTS, *STATE_LISTS, "highest", *ROW_LISTS)
 WIDE_LISTS = ("p", "y")
 SETS = (0, 1)                       # of a river
 NO_FLOW = MOST_FLOW_ROWS + 1
 
-# Lists that each macro counts.
-MACROS = {"WORDS": len(COLUMNS) + len(STATE_LISTS), "LOADING_WORDS": len(COLUMNS), "SET_WORDS": len(SET),
-          "COPY_WORDS": len(STATE_LISTS), "WIDE_WORDS": len(WIDE_LISTS), "ROW_WORDS": len(ROW_LISTS)}
+# The entries that each macro counts: one list's, or those of so many lists, with the highest figures or without.
+MACROS: dict[str, Callable[[int], int]] = {
+    "HIGHEST_WORDS": block_count,
+    "WORDS": lambda length: (len(COLUMNS) + len(STATE_LISTS)) * length + block_count(length),
+    "LOADING_WORDS": lambda length: len(COLUMNS) * length,
+    "SET_WORDS": lambda length: len(SET) * length,
+    "COPY_WORDS": lambda length: len(STATE_LISTS) * length + block_count(length),
+    "WIDE_WORDS": lambda length: len(WIDE_LISTS) * length,
+    "ROW_WORDS": lambda length: len(ROW_LISTS) * length,
+}
+SHARED_WORDS = len(STATE_LISTS) * MOST_SEGMENTS
 
 DIRTY = 0xA5A5A5A5
 SHOWN, SHARED_SHOWN = 7, 17         # entries of a list that header.c prints, of a river and of what rivers share
 ROOM, ROW_ROOM, RECORDS = 1_100, 16, 3
+HIGHEST_ROOM = block_count(ROOM)
 MEMORY = {                          # the first figure of each memory, and how many it has
-    "words": (1_000_000, MACROS["WORDS"] * ROOM),
-    "copy_words": (2_000_000, MACROS["COPY_WORDS"] * ROOM),
-    "row_words": (3_000_000, MACROS["ROW_WORDS"] * ROW_ROOM),
-    "wide_words": (4_000_000, MACROS["WIDE_WORDS"] * ROOM),
-    "copy_wide_words": (5_000_000, MACROS["WIDE_WORDS"] * ROOM),
-    "set_words": (6_000_000, MACROS["SET_WORDS"] * ROOM),
-    "river_words": (7_000_000, MACROS["LOADING_WORDS"] * ROOM),
-    "shared_words": (8_000_000, MACROS["COPY_WORDS"] * ROOM),
-    "shared_wide_words": (9_000_000, MACROS["WIDE_WORDS"] * ROOM),
+    "words": (1_000_000, MACROS["WORDS"](ROOM)),
+    "copy_words": (2_000_000, MACROS["COPY_WORDS"](ROOM)),
+    "row_words": (3_000_000, MACROS["ROW_WORDS"](ROW_ROOM)),
+    "wide_words": (4_000_000, MACROS["WIDE_WORDS"](ROOM)),
+    "copy_wide_words": (5_000_000, MACROS["WIDE_WORDS"](ROOM)),
+    "set_words": (6_000_000, MACROS["SET_WORDS"](ROOM)),
+    "river_words": (7_000_000, MACROS["LOADING_WORDS"](ROOM)),
+    "shared_words": (8_000_000, len(STATE_LISTS) * ROOM),
+    "shared_wide_words": (9_000_000, MACROS["WIDE_WORDS"](ROOM)),
+    "highest_words": (10_000_000, 2 * HIGHEST_ROOM),
 }
 SHEETS = ("first", "other", "third")        # as an opening names them
 
@@ -146,8 +156,13 @@ class Mirror:
 
     def lend_state(self, river: Mirrored, segments: int, words: str, wide_words: str, at: int = 0) -> None:
         self.divide(river, tuple(STATE_LISTS), segments, words, at)
+        self.lend_highest(river, segments, words, at + len(STATE_LISTS) * segments)
         self.divide(river, WIDE_LISTS, segments, wide_words)
         river.upstream = river.done = 0
+
+    @staticmethod
+    def lend_highest(river: Mirrored, segments: int, words: str = "highest_words", at: int = 0) -> None:
+        river.lists["highest"] = Stretch(words, at, block_count(segments))
 
     def lend_set(self, river: Mirrored, at: int, segments: int, words: str) -> None:
         self.divide(river, set_lists(at), segments, words)
@@ -179,6 +194,7 @@ class Mirror:
             words = "river_words" if command.river else "words"
             self.lend_loading(river, length, words)
             self.lend_state(river, 0, words, "shared_wide_words")
+            self.lend_highest(river, length, at=HIGHEST_ROOM * command.river)
         elif command.name == "lend_copy":
             river = self.rivers[command.river] = self.rivers[0].copy()
             self.lend_state(river, length, "copy_words", "copy_wide_words")
@@ -186,6 +202,8 @@ class Mirror:
                 self.lend_set(river, at, 0, "copy_words")
         elif command.name in ("set_lend", "lend_set"):
             self.lend_set(self.rivers[command.river], int(command.name == "lend_set"), length, "set_words")
+        elif command.name == "lend_highest":
+            self.lend_highest(self.rivers[command.river], length)
         elif command.name == "lend_state":
             self.lend_state(self.rivers[command.river], length, "copy_words", "copy_wide_words")
         elif command.name == "lend_rows":
@@ -241,9 +259,10 @@ class Mirror:
         """The lengths of a set as a call is handed them."""
         return {f"{name}{side}_length": river.lists[each].length for name, each in zip(SET, set_lists(at))}
 
-    def keep(self, river: Mirrored, state: model.State) -> None:
+    def keep(self, river: Mirrored, state: model.State, highest: list[int]) -> None:
         for name, each in STATE_LISTS.items():
             self.write(river, name, getattr(state, each))
+        self.write(river, "highest", highest)
         river.upstream, river.done = state.U, state.count
 
     def load_set(self, river: Mirrored, sheet: bytes, flow: int, at: int, records: int) -> tuple[Told, model.Loaded]:
@@ -333,10 +352,10 @@ class Mirror:
         self.tell(self.load_flow(river, new, old, records) if told == ACCEPTED else told)
 
     def start(self, river: Mirrored, u: int) -> None:
-        lists, state = self.lent(river)
-        if self.call("start", river, lambda: model.start(lists, river.loaded["segments"], state, u),
+        (lists, state), highest = self.lent(river), self.content(river, "highest")
+        if self.call("start", river, lambda: model.start(lists, river.loaded["segments"], state, highest, u),
                      **self.lengths(river), u=u):
-            self.keep(river, state)
+            self.keep(river, state, highest)
 
     def step(self, river: Mirrored, u: int) -> None:
         flows = self.pair(river)
@@ -346,11 +365,11 @@ class Mirror:
         old, new = map(river.flows.index, flows)
         before = self.lent_set(river, old)
         lists, state = self.lent(river, new)
-        p, y = (self.content(river, name) for name in WIDE_LISTS)
-        if self.call("step", river, lambda: model.step(before, lists, river.loaded["segments"], state, p, y, u,
+        highest, p, y = (self.content(river, name) for name in ("highest", *WIDE_LISTS))
+        if self.call("step", river, lambda: model.step(before, lists, river.loaded["segments"], state, highest, p, y, u,
                                                        river.loaded["steps"]),
                      **self.lengths(river, old, "0"), **self.lengths(river, new), u=u):
-            self.keep(river, state)
+            self.keep(river, state, highest)
             self.write(river, "p", p)
             self.write(river, "y", y)
 
@@ -364,14 +383,30 @@ class Mirror:
         self.call("report", river, answer, **self.lengths(river), segment=segment)
         self.lines.append(" reported channel {} storage {} sediment {}".format(*figures))
 
+    def search(self, river: Mirrored, limit: int) -> None:
+        C, highest = (self.content(river, name) for name in ("channel", "highest"))
+        n = river.loaded["segments"]
+        self.searched("search", river, lambda: model.search(n, C, highest, limit), 51, limit=limit)
+
+    def searched(self, name: str, river: Mirrored, answer: Callable[[], set[int]], segment: int, /, **handed: int
+                 ) -> None:
+        """A search; which of several segments it names is left open, so here there must be one answer alone."""
+        def found() -> None:
+            nonlocal segment
+            segment, = answer()
+
+        self.call(name, river, found, **handed)
+        self.lines.append(f" segment {segment}")
+
     def copy_state(self, to: Mirrored, source: Mirrored) -> None:
         n = source.loaded["segments"]
-        shortest = min(each.lists[name].length for each in (to, source) for name in STATE_LISTS)
-        if not 1 <= n <= MOST_SEGMENTS or to.loaded["segments"] != n or shortest < n:
+        wanted = dict.fromkeys(STATE_LISTS, n) | {"highest": block_count(n)}
+        short = any(each.lists[name].length < entries for each in (to, source) for name, entries in wanted.items())
+        if not 1 <= n <= MOST_SEGMENTS or to.loaded["segments"] != n or short:
             self.tell(place_of(model.Refusal(13)))
             return
-        for name in STATE_LISTS:
-            self.write(to, name, self.content(source, name)[:n])
+        for name, entries in wanted.items():
+            self.write(to, name, self.content(source, name)[:entries])
         to.upstream, to.done = source.upstream, source.done
         self.tell(ACCEPTED)
 
@@ -401,36 +436,41 @@ class Mirror:
 
     def open(self, river: Mirrored, which: int, number: int, u: int) -> None:
         sheet, shared = self.given[which], self.shared
-        lists, _ = self.lent(river)
+        lists, highest = self.lent(river)[0], self.content(river, "highest")
         loaded: Optional[model.Loaded] = None
 
         def answer() -> None:
             nonlocal loaded
-            loaded = self.pooled().open(number, sheet, 0, lists, self.reaches, shared.shortest, shared.table, u)
+            loaded = self.pooled().open(number, sheet, 0, lists, self.reaches, shared.shortest, highest, shared.table,
+                                        u)
 
         if self.call("pool_open", river, answer, **self.lengths(river), **shared.lengths(), sheet_length=len(sheet),
                      row=0, reaches_length=RECORDS, river=number, u=u):
             for name, column in lists.column.items():
                 self.write(river, f"0.{name}" if name in SET else name.lower(), column)
+            self.write(river, "highest", highest)
             river.loaded = {name: getattr(loaded, each) for name, each in LOADED.items()}
             self.keep_sheet(river, which)
             starts = lists.column["start"][:loaded.segments]
             self.keep_pool(number, river, *after_opening(shared.table, self.shared_lists(), number, starts, u))
         self.show_reaches()
 
-    def move(self, name: str, river: Mirrored, number: int, answer: Callable[[model.Pool], None], **handed: int
-             ) -> bool:
-        """A start or a step of an open river."""
-        pool = self.pooled()
-        if not self.call(name, river, lambda: answer(pool), **{**self.shared.lengths(), **handed}, river=number):
+    def move(self, name: str, river: Mirrored, number: int, answer: Callable[[model.Pool, list[int]], None],
+             **handed: int) -> bool:
+        """A start or a step of an open river, which is lent its highest figures."""
+        pool, highest = self.pooled(), self.content(river, "highest")
+        handed = {**self.shared.lengths(), **handed}
+        if not self.call(name, river, lambda: answer(pool, highest), **handed, river=number):
             return False
+        self.write(river, "highest", highest)
         moved = after_moving(self.shared.table, self.shared_lists(), number, pool.rivers[number])
         self.keep_pool(number, river, *moved)
         return True
 
     def shared_start(self, river: Mirrored, number: int, u: int) -> None:
         lists, shared = self.lent(river)[0], self.shared
-        self.move("pool_start", river, number, lambda pool: pool.start(number, lists, shared.shortest, shared.table, u),
+        self.move("pool_start", river, number,
+                  lambda pool, highest: pool.start(number, lists, shared.shortest, highest, shared.table, u),
                   **self.lengths(river), u=u)
 
     def shared_step(self, river: Mirrored, number: int, u: int) -> None:
@@ -442,8 +482,8 @@ class Mirror:
         before, lists = self.lent_set(river, old), self.lent(river, new)[0]
         p, y = (self.content(shared, name) for name in WIDE_LISTS)
         if self.move("pool_step", river, number,
-                     lambda pool: pool.step(number, before, lists, shared.shortest, shared.table, p, y, u,
-                                            river.loaded["steps"]),
+                     lambda pool, highest: pool.step(number, before, lists, shared.shortest, highest, shared.table, p,
+                                                     y, u, river.loaded["steps"]),
                      **self.lengths(river, old, "0"), **self.lengths(river, new), u=u):
             self.write(shared, "p", p)
             self.write(shared, "y", y)
@@ -459,6 +499,12 @@ class Mirror:
                   segment=segment)
         self.lines.append(" reported channel {} storage {} sediment {}".format(*figures))
 
+    def shared_search(self, river: Mirrored, number: int, limit: int) -> None:
+        shared, highest = self.shared, self.content(river, "highest")
+        length = shared.lists["channel"].length
+        self.searched("pool_search", river, lambda: self.pooled().search(number, length, highest, shared.table, limit),
+                      61, **shared.lengths(), river=number, limit=limit)
+
     def close(self, river: Mirrored, number: int) -> None:
         if self.call("pool_close", river, lambda: self.pooled().close(number, self.shared.table), river=number):
             self.shared.table = after_closing(self.shared.table, number)
@@ -468,7 +514,7 @@ class Mirror:
         which = SHEETS.index(command.field) if command.field in SHEETS else 0
         if name == "open":
             self.open(river, which, first, second)
-        elif name in ("shared_start", "shared_step", "shared_report"):
+        elif name in ("shared_start", "shared_step", "shared_report", "shared_search"):
             getattr(self, name)(river, first, second)
         elif name == "close":
             self.close(river, first)
@@ -478,6 +524,9 @@ class Mirror:
             self.keep_sheet(river, which, second)
         elif name == "shared_length":
             self.shared.lists[command.field] = self.shared.lists[command.field]._replace(length=first)
+        elif name == "shared_put":
+            memory, at, _ = self.shared.lists[command.field]
+            self.memory[memory][at + first] = second
         elif name == "shared_working":
             for each, length in zip(WIDE_LISTS, (first, second)):
                 self.shared.lists[each] = self.shared.lists[each]._replace(length=length)
@@ -489,7 +538,7 @@ class Mirror:
         self.lines.append(str(command))
         self.lend(command)
         river, name, first = self.rivers[command.river], command.name, command.first
-        if name in ("load", "start", "step", "upstream", "gauge", "sets"):
+        if name in ("load", "start", "step", "search", "upstream", "gauge", "sets"):
             getattr(self, name)(river, first)
         elif name == "flow":
             self.lines.append(f" flow {self.flow(river, first)}")
@@ -587,8 +636,9 @@ def plain_commands(draft: sheets.Draft) -> list[str]:
     n, M = draft.segments, draft.header.M
     lent = (*set_lists(0), *OTHER_LISTS, *STATE_LISTS)
     found = [f"lend 0 {ROOM}", "rows 0", "upstream 0", "gauge 0", "dt 0", "dx 0", "flow 0 3", "set 0 0", "start 0 5",
-             "step 0 6", "report 0 1", "copy_state 0", f"sets 0 {RECORDS}"]
+             "step 0 6", "report 0 1", "search 0 5", "copy_state 0", f"sets 0 {RECORDS}"]
     found += [f"length 0 {name} {ROOM - at}" for at, name in enumerate(lent)]
+    found.append(f"length 0 highest {MOST_BLOCKS + 2}")
     found += [f"working 0 {ROOM - 20} {ROOM - 21}", "load 0 1", "load 0", "load 0 1", "rows 0", "upstream 0",
               f"lend_rows 0 {ROW_ROOM}", f"length 0 starts {ROW_ROOM - 1}", f"length 0 concentrations {ROW_ROOM - 2}",
               "upstream 0", "rows 0", f"length 0 0.e {n - 1}", "load 0", f"length 0 0.e {ROOM}"]
@@ -598,26 +648,48 @@ def plain_commands(draft: sheets.Draft) -> list[str]:
     found += ["dt 0", "dx 0", "flow 0 1", f"start 0 {HIGHEST + 1}", "start 0 700", "step 0 8000", f"sets 0 {RECORDS}",
               "step 0 650000", "step 0 31000"]
     found += [f"{name} 0 {segment}" for segment in range(n + 2) for name in ("report", "report_by_macros")]
+    found += search_commands(n)
     found += [f"put 0 kd 2 {HIGHEST_KD + 1}", "start 0 1", "step 0 1", "report 0 1", "load 0", "rows 0"]
     # a copy with its own state, which runs on while the river stays
     found += [f"lend_copy 1 {ROOM}", *(f"length 1 {name} {ROOM - 30 - at}" for at, name in enumerate(STATE_LISTS)),
-              f"working 1 {ROOM - 40} {ROOM - 41}", "copy_state 1", "step 1 52000", "step 1 53000", f"report 1 {n}",
-              "gauge 1 1", "upstream 1 2", "step 0 61000", "copy_state 0 1", "step 1 54000"]
+              f"working 1 {ROOM - 40} {ROOM - 41}", f"length 1 highest {MOST_BLOCKS + 1}", "copy_state 1",
+              "step 1 52000", "step 1 53000", f"report 1 {n}", f"search 1 {HIGHEST}", "gauge 1 1", "upstream 1 2",
+              "step 0 61000", "copy_state 0 1", "step 1 54000"]
     # states that do not fit, by one list and by the count of segments
     found.append(f"steps 0 {MOST_STEPS}")
     for river in (0, 1):
         for name in STATE_LISTS:
             found += [f"length {river} {name} {n - 1}", "copy_state 1", f"length {river} {name} {n}", "copy_state 1",
                       f"length {river} {name} {ROOM - lent.index(name) - 20 * river}", f"step 0 {70_000 + len(found)}"]
+        for segments in (n, MOST_SEGMENTS):
+            found += [f"segments 0 {segments}", f"segments 1 {segments}", f"put 0 highest 0 {len(found)}"]
+            found += [line for length in (block_count(segments) - 1, block_count(segments))
+                      for line in (f"length {river} highest {length}", "copy_state 1")]
+            found += [f"length {river} highest {MOST_BLOCKS + 2 - river}", f"segments 0 {n}", f"segments 1 {n}"]
     for here, there in ((n, n - 1), (n - 1, n), (0, 0), (1, 1), (MOST_SEGMENTS, MOST_SEGMENTS),
                         (MOST_SEGMENTS + 1, MOST_SEGMENTS + 1), (n, n)):
         found += [f"step 0 {80_000 + here}", f"segments 0 {here}", f"segments 1 {there}", "copy_state 1",
                   f"segments 0 {n}"]
     found += [f"lend_copy 1 {ROOM}", f"lend_state 1 {ROOM - 9}", "divide 1 6", "load 0", f"lend_rows 0 {ROW_ROOM - 1}",
               "steps 0 3", "step 0 1"]
+    found += [f"lend_highest 1 {segments}" for segments in (0, 1, 16, 17, 33, MOST_SEGMENTS)]
     found += ["marks 0 1", "load 0 1", "rows 0", "upstream 0 1", "gauge 0 1", "dt 0", "dx 0", "start 0 1", "step 0 1",
-              "report 0 1", "marks 0"]
+              "report 0 1", "search 0 1", "marks 0"]
     return found
+
+
+def search_commands(n: int) -> list[str]:
+    """Searches that have one answer each, and calls with too few highest figures; the three lists differ."""
+    found = [f"put 0 {name} {at} {1_000 * number + 10 * (at * 3 % n)}" for number, name in enumerate(STATE_LISTS)
+             for at in range(n)]
+    top = 10 * (n - 1)              # of the channel figures
+    found += [f"put 0 highest 0 {top}", f"put 0 highest 1 {sheets.HIGHEST_FIELD}"]
+    found += [f"search 0 {limit}" for limit in (top - 1, top - 9, top, top + 1, sheets.HIGHEST_FIELD)]
+    found += [f"put 0 highest 0 {top - 5}", f"search 0 {top - 5}", f"search 0 {top - 6}", f"put 0 highest 0 {HIGHEST}",
+              f"search 0 {top}", f"search 0 {top - 1}"]
+    found += [line for length in (0, 1) for line in (f"length 0 highest {length}", f"search 0 {top - 1}", "step 0 7",
+                                                     "start 0 5", "report 0 1")]
+    return [*found, f"length 0 highest {MOST_BLOCKS + 2}"]
 
 
 def flow_commands(draft: sheets.Draft) -> list[str]:
@@ -641,7 +713,8 @@ def flow_commands(draft: sheets.Draft) -> list[str]:
     # a flow loaded by its number, in place of the one that is not kept
     found += [f"load_flow 0 {flow} {keep}" for flow, keep in ((2, last), (2, 2), (3, 2), (0, 3), (1, 0), (last + 1, 1))]
     # a copy holds a state and has no set
-    found += [f"lend_copy 1 {ROOM}", "copy_state 1", "report 1 1", f"sets 1 {RECORDS}", "step 1 9", "load 1 2",
+    found += [f"lend_copy 1 {ROOM}", "copy_state 1", "report 1 1", f"search 1 {HIGHEST}", "put 1 channel 3 900000000",
+              "put 1 highest 0 900000000", "search 1 899999999", f"sets 1 {RECORDS}", "step 1 9", "load 1 2",
               f"set_lend 1 {n}", "load 1 2", "report 1 2"]
     found += ["marks 0 1", "flow 0 2", prepared, "load_flow 0 2 1", "step 0 1", "marks 0"]
     # a sheet without flow rows again, and one that is refused
@@ -658,14 +731,31 @@ def shared_commands(draft: sheets.Draft) -> list[str]:
              *(f"length {river} {name} {ROOM - 20 * river - at}" for river in (0, 1) for at, name in enumerate(lent)),
              *(f"length 0 {name} {ROOM - 50 - at}" for at, name in enumerate(set_lists(1))),
              *(f"shared_length 0 {name} {MOST_SEGMENTS + 3 - at}" for at, name in enumerate(STATE_LISTS)),
+             *(f"length {river} highest {MOST_BLOCKS + 4 - river}" for river in (0, 1)),
              f"shared_working 0 {MOST_SEGMENTS - 1} {MOST_SEGMENTS - 2}"]
     # nothing is open; a river of the pool has no state of its own
-    calls = ("shared_start {0} {1} 5", "shared_step {0} {1} 6", "shared_report {0} {1} 1", "close {0} {1}")
+    calls = ("shared_start {0} {1} 5", "shared_step {0} {1} 6", "shared_report {0} {1} 1",
+             f"shared_search {{0}} {{1}} {HIGHEST}", "close {0} {1}")
     found += [call.format(0, 3) for call in calls]
-    found += ["load 0 2", "start 0 5", prepared, "step 0 6", "report 0 1"]
+    found += ["load 0 2", "start 0 5", prepared, "step 0 6", "report 0 1", "search 0 1"]
     # openings, refused and accepted
     found += ["open 0 other 3 700", f"open 0 third 3 {HIGHEST + 1}", "open 0 third 0 700", "open 0 third 9 700",
+              "length 0 highest 0", "open 0 third 3 700", "length 0 highest 1",
               "open 0 third 3 700", "open 0 third 3 701", "open 1 first 3 800", "open 1 first 8 800"]
+    # searches that have one answer each, on either stretch; with too few highest figures
+    for river, number in enumerate((3, 8)):
+        found += [f"shared_put 0 {name} {n * river + at} {1_000 * part + 100 * river + 10 * (at * 3 % n)}"
+                  for part, name in enumerate(STATE_LISTS) for at in range(n)]
+        found += [f"put {river} highest 0 {100 * river + 10 * (n - 1)}"]
+    for river, number in enumerate((3, 8)):
+        top = 100 * river + 10 * (n - 1)
+        found += [f"shared_search {river} {number} {limit}" for limit in (top - 1, top, top + 1)]
+        found += [f"put {river} highest 0 {top - 5}", f"shared_search {river} {number} {top - 5}",
+                  f"shared_search {river} {number} {top - 6}"]
+        found += [line for length in (0, 1) for line in (
+            f"length {river} highest {length}", f"shared_search {river} {number} {top - 6}",
+            f"shared_start {river} {number} 5", f"shared_step {river} {number} 6")]
+        found.append(f"length {river} highest {MOST_BLOCKS + 4 - river}")
     # the sets of each step, as of a river alone; the two in turn
     for j in range(M):
         found += [f"shared_step 0 3 {40_000 + j}", prepared, f"shared_step 0 3 {50_000 + j}",
@@ -680,7 +770,7 @@ def shared_commands(draft: sheets.Draft) -> list[str]:
         found += [call.format(0, number) for call in calls]
     for at, name in enumerate(STATE_LISTS):
         found += [f"shared_length 0 {name} {MOST_SEGMENTS - 1}", "open 1 first 1 5",
-                  *(call.format(1, 8) for call in calls[:3]), f"shared_length 0 {name} {MOST_SEGMENTS + 3 - at}"]
+                  *(call.format(1, 8) for call in calls[:4]), f"shared_length 0 {name} {MOST_SEGMENTS + 3 - at}"]
     found += [f"shared_working 0 {n - 1} {n}", "shared_step 1 8 5", f"shared_working 0 {n} {n - 1}",
               "shared_step 1 8 5", f"shared_working 0 {MOST_SEGMENTS - 1} {MOST_SEGMENTS - 2}"]
     for name, figure in (("first", n - 1), ("first", MOST_SEGMENTS), ("segments", MOST_SEGMENTS)):

@@ -12,9 +12,11 @@ from typing import NamedTuple, Optional
 
 import model
 import sheets
-from calls import LISTS, Caller, Change, Difference, Run, Shelf, Tally, draw_word, draw_words
+from calls import (LISTS, Caller, Change, Difference, Run, Shelf, Tally, Told, draw_word, draw_words, hold_search,
+                   some_limit)
 from library import FIGURES, OLD, WORKING, Library, Slice, U32, flat
-from model import COLUMNS, HIGHEST, MOST_RIVERS, MOST_SEGMENTS, SET, Segment, Slot, State, Table, open_rivers
+from model import (COLUMNS, HIGHEST, MOST_BLOCKS, MOST_RIVERS, MOST_SEGMENTS, NONE_ABOVE, SET, Segment, Slot, State,
+                   Table, open_rivers)
 from sheets import HIGHEST_FIELD
 
 WIDTH = len(Slot._fields)
@@ -64,11 +66,12 @@ class Lent(NamedTuple):
     y: list[int]
 
 
-Told = dict[str, int]               # lengths that a call is told, where they are not the lists' own
-
-
 class PoolCalls(Caller):
-    """A table and three shared lists on the shelf, and the model's rivers, which are kept apart."""
+    """A table and three shared lists on the shelf, and the model's rivers, which are kept apart.
+
+    Each number has its own list of highest figures there, which the calls on that river are lent and no others; a call
+    is told of its length as that of "highest".
+    """
 
     def __init__(self, library: Library, rng: random.Random, tally: Tally, table: Optional[Table] = None,
                  shared: Optional[Shared] = None) -> None:
@@ -104,11 +107,30 @@ class PoolCalls(Caller):
     def answer(self) -> int:
         return self.shelf.content["number"][0]
 
-    def shared_slices(self, told: Told) -> list[Slice]:
-        return [self.shelf.part(name, told.get(name, self.shelf.buffers[name].length)) for name in FIGURES]
+    def shared_slices(self, told: Told, names: tuple[str, ...] = FIGURES) -> list[Slice]:
+        return [self.shelf.lent(name, told) for name in names]
 
-    def shortest(self, told: Told) -> int:
-        return min(told.get(name, self.shelf.buffers[name].length) for name in FIGURES)
+    def shortest(self, told: Told, names: tuple[str, ...] = FIGURES) -> int:
+        return min(each.length for each in self.shared_slices(told, names))
+
+    def highest_name(self, number: int) -> str:
+        """The list of a number's highest figures: long enough for every river, with any content before."""
+        name = f"highest {number}"
+        if name not in self.shelf.content:
+            self.shelf.add(name, draw_words(self.rng, MOST_BLOCKS + self.rng.randrange(3)))
+        return name
+
+    def highest(self, number: int, told: Told) -> list[int]:
+        """That list as the model is lent it."""
+        return self.shelf.content[self.highest_name(number)][:told.get("highest")]
+
+    def highest_slice(self, number: int, told: Told) -> Slice:
+        name = self.highest_name(number)
+        return self.shelf.part(name, told.get("highest", self.shelf.buffers[name].length))
+
+    def keep_highest(self, number: int, highest: list[int]) -> None:
+        """What an accepted call leaves in it."""
+        self.shelf.content[self.highest_name(number)][:len(highest)] = highest
 
     def lend_river(self, old: list[Segment], new: list[Segment]) -> Shelf:
         """A shelf with the lists of a river: the set of its old side, the fourteen lists, working lists."""
@@ -127,17 +149,19 @@ class PoolCalls(Caller):
         """An opening into lists of these lengths, else of 1,024 entries each."""
         shelf, told = self.shelf, told or {}
         lists, table = self.lend_loading(sheet, lengths or [MOST_SEGMENTS] * len(COLUMNS), records)
+        highest = self.highest(number, told)
         refusal = None
         try:
-            loaded = self.pool.open(number, sheet, row, lists, table, self.shortest(told), self.table, u)
+            loaded = self.pool.open(number, sheet, row, lists, table, self.shortest(told), highest, self.table, u)
             self.keep_loading(loaded, table)
+            self.keep_highest(number, highest)
             self.keep_pool(*after_opening(self.table, self.shared, number, lists.column["start"][:loaded.segments], u))
         except model.Refusal as found:
             refusal = found
         self.library.call("pool_open", *self.references(), shelf.buffers["loaded"], U32(number), shelf.whole("sheet"),
                           U32(row), Slice(shelf.buffers["reaches"], records),
                           *(shelf.whole(name) for name in COLUMNS), *self.shared_slices(told),
-                          shelf.buffers["table"], U32(u))
+                          self.highest_slice(number, told), shelf.buffers["table"], U32(u))
         return self.settle("pool_open", refusal, f"{what}, number {number}, flow row {row}, U {u}, told {told}")
 
     # start, step and report are lent the river's lists, which stand on a shelf of their own
@@ -152,45 +176,48 @@ class PoolCalls(Caller):
 
     @staticmethod
     def slices(shelf: Shelf, names: tuple[str, ...], told: Told) -> list[Slice]:
-        return [shelf.part(name, told.get(name, shelf.buffers[name].length)) for name in names]
+        return [shelf.lent(name, told) for name in names]
 
     def end(self, name: str, shelf: Shelf, refusal: Optional[model.Refusal], what: str) -> bool:
         """Compares the river's lists too."""
         shelf.compare(f"{name}, {what}")
         return self.settle(name, refusal, what)
 
-    def move(self, number: int) -> None:
-        """What an accepted start or step leaves in table and shared lists."""
+    def move(self, number: int, highest: list[int]) -> None:
+        """What an accepted start or step leaves in table, shared lists and highest figures."""
         self.keep_pool(*after_moving(self.table, self.shared, number, self.pool.rivers[number]))
+        self.keep_highest(number, highest)
 
     def start(self, number: int, u: int, shelf: Shelf, told: Optional[Told] = None) -> bool:
         told = told or {}
-        lent = self.lent(shelf, told)
+        lent, highest = self.lent(shelf, told), self.highest(number, told)
         self.dirty()
         refusal = None
         try:
-            self.pool.start(number, lent.lists, self.shortest(told), self.table, u)
-            self.move(number)
+            self.pool.start(number, lent.lists, self.shortest(told), highest, self.table, u)
+            self.move(number, highest)
         except model.Refusal as found:
             refusal = found
         self.library.call("pool_start", *self.references(), U32(number), *self.slices(shelf, COLUMNS, told),
-                          *self.shared_slices(told), self.shelf.buffers["table"], U32(u))
+                          *self.shared_slices(told), self.highest_slice(number, told), self.shelf.buffers["table"],
+                          U32(u))
         return self.end("pool_start", shelf, refusal, f"number {number}, U {u}, told {told}")
 
     def step(self, number: int, u: int, steps: int, shelf: Shelf, told: Optional[Told] = None) -> bool:
         told = told or {}
-        lent = self.lent(shelf, told)
+        lent, highest = self.lent(shelf, told), self.highest(number, told)
         self.dirty()
         refusal = None
         try:
-            self.pool.step(number, lent.old, lent.lists, self.shortest(told), self.table, lent.p, lent.y, u, steps)
-            self.move(number)
+            self.pool.step(number, lent.old, lent.lists, self.shortest(told), highest, self.table, lent.p, lent.y, u,
+                           steps)
+            self.move(number, highest)
             for name, content in zip(WORKING, (lent.p, lent.y)):
                 shelf.content[name][:len(content)] = content
         except model.Refusal as found:
             refusal = found
         self.library.call("pool_step", *self.references(), U32(number), *self.slices(shelf, (*OLD, *COLUMNS), told),
-                          *self.shared_slices(told), self.shelf.buffers["table"],
+                          *self.shared_slices(told), self.highest_slice(number, told), self.shelf.buffers["table"],
                           *self.slices(shelf, WORKING, told), U32(u), U32(steps))
         return self.end("pool_step", shelf, refusal, f"number {number}, U' {u}, M {steps}, told {told}")
 
@@ -210,6 +237,22 @@ class PoolCalls(Caller):
                           *self.slices(shelf, COLUMNS, told), *self.shared_slices(told),
                           self.shelf.buffers["table"], U32(segment))
         return self.end("pool_report", shelf, refusal, f"number {number}, segment {segment}, told {told}")
+
+    def search(self, number: int, limit: int, told: Optional[Told] = None) -> Optional[int]:
+        """What a search of the river names, if it is accepted; of the shared lists it is lent C alone."""
+        told = told or {}
+        highest, shared = self.highest(number, told), self.shortest(told, ("C",))
+        self.dirty("segment")
+        allowed: set[int] = set()
+        refusal = None
+        try:
+            allowed = self.pool.search(number, shared, highest, self.table, limit)
+        except model.Refusal as found:
+            refusal = found
+        self.library.call("pool_search", *self.references(), self.shelf.buffers["segment"], U32(number),
+                          *self.shared_slices(told, ("C",)), self.highest_slice(number, told),
+                          self.shelf.buffers["table"], U32(limit))
+        return self.settle_search("pool_search", allowed, refusal, f"number {number}, limit {limit}, told {told}")
 
     def close(self, number: int) -> bool:
         self.dirty()
@@ -253,6 +296,9 @@ class PoolRun(PoolCalls):
             for name in FIGURES:
                 if self.shelf.content[name][slot.first:slot.first + slot.segments] != alone[name][:twin.n]:
                     raise Difference(f"{name} of river {number} is not that of the river alone")
+            blocks = model.block_count(twin.n)
+            if self.highest(number, {})[:blocks] != alone["highest"][:blocks]:
+                raise Difference(f"the highest figures of river {number} are not those of the river alone")
 
     # one call, drawn at random
 
@@ -320,6 +366,8 @@ class PoolRun(PoolCalls):
                 pool.append(Change("table", at, change.figure))
             else:
                 lists.append(change)
+        for change in lent.some_highest(0.05):
+            pool.append(change._replace(name=self.highest_name(number)))
         if rng.random() < 0.05:         # the water of others, or of nobody
             pool.append(Change(rng.choice(FIGURES), rng.randrange(MOST_SEGMENTS), HIGHEST_FIELD))
         if rng.random() < 0.08:
@@ -338,9 +386,11 @@ class PoolRun(PoolCalls):
             shelf.put(change.name, content)
 
     def some_figures(self, name: str, lent: Run) -> tuple[int, int]:
-        """A report's segment, or U and of a step M."""
+        """A report's segment, a search's limit, or U and of a step M."""
         if name == "report":
             return lent.some_segment(lent.n), 0
+        if name == "search":
+            return some_limit(self.rng, lent.shelf.content["C"][:lent.n]), 0
         return self.some_u(), lent.some_steps(lent.moves)
 
     def put_alone(self, name: str, twin: Run, figure: int, steps: int, told: Told) -> None:
@@ -350,6 +400,12 @@ class PoolRun(PoolCalls):
         if name == "report":
             if twin.report(twin.n, figure, own):
                 handed += ("c", "z", "kdw")
+        elif name == "search":
+            found = twin.search(twin.n, figure, own)
+            if found is not None:
+                hold_search(found, twin.shelf.content["C"][:twin.n], figure)
+                if (found == NONE_ABOVE) != (self.shelf.content["segment"][0] == NONE_ABOVE):
+                    raise Difference(f"limit {figure}: the river alone has {found}, in the pool it is not so")
         elif name == "start":
             if twin.start(twin.n, figure, own):
                 twin.begin(figure)
@@ -370,32 +426,38 @@ class PoolRun(PoolCalls):
             self.one_closing()
         else:
             self.one_move(name)
+        if self.twins and rng.random() < 0.3:
+            self.one_move("search")
         self.hold_apart()
 
     def one_move(self, name: str) -> None:
         rng, number = self.rng, self.some_number(True)
         own = number in self.twins and rng.random() < 0.95
         lent = self.twins[number] if own else rng.choice(list(self.twins.values()))
-        if name != "step":
+        if name in ("start", "report"):
             lent.lend_columns_of(lent.any_flow())
-        elif rng.random() < 0.9:
+        elif name == "step" and rng.random() < 0.9:
             lent.lend_next_pair()
-        else:
+        elif name == "step":
             lent.lend_pair(lent.any_flow(), lent.any_flow())
             own = False
         lists, pool = self.some_changes(number, lent)
         before = [(shelf, name, list(shelf.content[name])) for shelf, names in (
-            (lent.shelf, (*OLD, *COLUMNS, *WORKING)), (self.shelf, ("table", *FIGURES))) for name in names]
+            (lent.shelf, (*OLD, *COLUMNS, *WORKING)),
+            (self.shelf, ("table", *FIGURES, self.highest_name(number)))) for name in names]
         rivers = self.pool
         self.change(lent.shelf, lists)
         self.change(self.shelf, pool)
         if not own or lists or pool:    # not a call of this run: an accepted one was lent other lists
             own = False
             self.pool = model.Pool.of(self.table, *self.shared.values())
-        told = {**self.some_shared(), **lent.some_told(LISTS if name == "step" else COLUMNS)}
+        short = {"start": (*COLUMNS, "highest"), "step": LISTS, "report": COLUMNS, "search": ("highest",)}[name]
+        told = {**self.some_shared(), **lent.some_told(short)}
         figure, steps = self.some_figures(name, lent)
         if name == "step":
             self.step(number, figure, steps, lent.shelf, told)
+        elif name == "search":
+            self.search(number, figure, told)
         else:
             (self.start if name == "start" else self.report)(number, figure, lent.shelf, told)
         if not own:

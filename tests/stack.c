@@ -25,13 +25,14 @@ static uint64_t wide_words[YUMBAQEL_WIDE_WORDS(YUMBAQEL_MOST_SEGMENTS)];
 static uint32_t set_words[YUMBAQEL_SET_WORDS(YUMBAQEL_MOST_SEGMENTS)];
 static uint32_t row_words[YUMBAQEL_ROW_WORDS(YUMBAQEL_MOST_ROWS)];
 static struct yumbaqel_river river;
-static uint32_t shared_words[YUMBAQEL_COPY_WORDS(YUMBAQEL_MOST_SEGMENTS)];
+static uint32_t shared_words[YUMBAQEL_SHARED_WORDS];
 static uint64_t shared_wide_words[YUMBAQEL_WIDE_WORDS(YUMBAQEL_MOST_SEGMENTS)];
 static uint32_t pool_river_words[YUMBAQEL_LOADING_WORDS(YUMBAQEL_MOST_SEGMENTS)];
+static uint32_t pool_highest_words[YUMBAQEL_BLOCKS];
 static uint32_t pool_set_words[YUMBAQEL_SET_WORDS(YUMBAQEL_MOST_SEGMENTS)];
 static struct yumbaqel_shared shared;
 static struct yumbaqel_river pool_river;
-static uint32_t number;
+static uint32_t number, limit;
 static struct yumbaqel_refusal told;
 static struct yumbaqel_figures figures;
 static uint32_t u;
@@ -59,6 +60,11 @@ static void step(void)
 static void report(void)
 {
     told = yumbaqel_river_report(&river, river.loaded.segments, &figures);
+}
+
+static void search(void)
+{
+    told = yumbaqel_river_search(&river, limit, &u);
 }
 
 static void upstream(void)
@@ -116,6 +122,11 @@ static void pool_report(void)
     told = yumbaqel_shared_report(&shared, number, &pool_river, pool_river.loaded.segments, &figures);
 }
 
+static void pool_search(void)
+{
+    told = yumbaqel_shared_search(&shared, number, &pool_river, limit, &u);
+}
+
 static void pool_close(void)
 {
     told = yumbaqel_shared_close(&shared, number);
@@ -148,7 +159,7 @@ static void measure(const char *name, void (*which)(void))
 static void measure_pool(void)
 {
     yumbaqel_shared_lend(&shared, shared_words, shared_wide_words);
-    yumbaqel_shared_lend_river(&shared, &pool_river, YUMBAQEL_MOST_SEGMENTS, pool_river_words);
+    yumbaqel_shared_lend_river(&shared, &pool_river, YUMBAQEL_MOST_SEGMENTS, pool_river_words, pool_highest_words);
     yumbaqel_river_lend_set(&pool_river, YUMBAQEL_MOST_SEGMENTS, pool_set_words);
     for (number = 1; number < YUMBAQEL_MOST_RIVERS; number++)
         measure("pool_open", pool_open);
@@ -162,6 +173,8 @@ static void measure_pool(void)
         measure("pool_step", pool_step);
     }
     measure("pool_report", pool_report);
+    for (limit = 0; limit <= YUMBAQEL_HIGHEST; limit += YUMBAQEL_HIGHEST)
+        measure("pool_search", pool_search);
     measure("pool_close", pool_close);
     number = YUMBAQEL_MOST_RIVERS;
     measure("pool_open", pool_open);
@@ -191,5 +204,7 @@ int main(void)
     sets();
     measure("step", step);
     measure("report", report);
+    for (limit = 0; limit <= YUMBAQEL_HIGHEST; limit += YUMBAQEL_HIGHEST)
+        measure("search", search);
     return 0;
 }

@@ -31,10 +31,11 @@ import model
 import sheets
 import stack
 from calls import Answer, Caller, Run, Tally
-from library import KINDS, ROOT, STRICT, BuildFault, Library, compiled, shared_object
-from mirror import (LOADED, MACROS, NO_FLOW, OTHER_LISTS, REACH, ROW_LISTS, SETS, STATE_LISTS, Mirror, commands,
-                    distinct_draft, with_flow_rows)
-from model import COLUMNS, HIGHEST, MOST_FLOW_ROWS, MOST_REACHES, MOST_ROWS, MOST_SEGMENTS, MOST_STEPS, SET, Row
+from library import FIGURES, KINDS, ROOT, STRICT, BuildFault, Library, compiled, shared_object
+from mirror import (LOADED, MACROS, NO_FLOW, OTHER_LISTS, REACH, ROW_LISTS, SETS, SHARED_WORDS, STATE_LISTS, Mirror,
+                    commands, distinct_draft, with_flow_rows)
+from model import (COLUMNS, HIGHEST, MOST_BLOCKS, MOST_FLOW_ROWS, MOST_REACHES, MOST_ROWS, MOST_SEGMENTS, MOST_STEPS,
+                   SET, Row)
 from pools import PoolCalls
 from signatures import declaration, recorder_source, signatures
 from wrong_headers import Header, Wrong, tokens
@@ -73,9 +74,9 @@ CHECKED = (REACH_STRUCT, LOADED_STRUCT, TABLE_STRUCT)       # the header checks 
 STRUCTS = (
     *CHECKED, SLOT_STRUCT, LIST, WIDE_LIST, SET_STRUCT,
     struct("yumbaqel_river", ("sets", SET_STRUCT * len(SETS)), *((name, LIST) for name in (*OTHER_LISTS, *STATE_LISTS)),
-           ("upstream", U32), ("done", U32), ("p", WIDE_LIST), ("y", WIDE_LIST), ("loaded", LOADED_STRUCT),
-           ("sheet", ctypes.POINTER(ctypes.c_uint8)), ("sheet_length", SIZE), *((name, LIST) for name in ROW_LISTS),
-           ("rows", U32)),
+           ("highest", LIST), ("upstream", U32), ("done", U32), ("p", WIDE_LIST), ("y", WIDE_LIST),
+           ("loaded", LOADED_STRUCT), ("sheet", ctypes.POINTER(ctypes.c_uint8)), ("sheet_length", SIZE),
+           *((name, LIST) for name in ROW_LISTS), ("rows", U32)),
     struct("yumbaqel_shared", *((name, LIST) for name in STATE_LISTS), ("p", WIDE_LIST), ("y", WIDE_LIST),
            ("table", TABLE_STRUCT)),
     struct("yumbaqel_refusal", ("number", U32), ("kind", U32), ("place", U32)),
@@ -85,7 +86,7 @@ REFUSALS = ("ACCEPTED", "MARK", "SHORT_SHEET", "COUNT", "LONG_SHEET", "HEADER", 
             "BOUNDARY_ROW", "GAUGE", "FLOW", "FACE", "SUM", "SHORT_LIST", "FIGURE", "STEPS_DONE", "FLOW_ROW",
             "NO_ROOM", "NOT_OPEN")
 KIND_NAMES = {"NOTHING": None, "REACH": "reach", "SEGMENT": "segment", "ROW": "row"}
-TRIED = 1 + 2                       # the figure that a macro is tried on
+TRIED = (1 + 2, 15 + 1, 16 + 1)     # the figures that a macro is tried on
 
 
 def constants(library: Library, used: int) -> dict[str, int]:
@@ -93,8 +94,8 @@ def constants(library: Library, used: int) -> dict[str, int]:
     return {"VERSION": library.call("version"), "SCALE": model.ONE_WHOLE, "HIGHEST": HIGHEST,
             "MOST_SEGMENTS": MOST_SEGMENTS, "MOST_STEPS": MOST_STEPS, "MOST_REACHES": MOST_REACHES,
             "MOST_ROWS": MOST_ROWS, "MOST_GAUGES": model.MOST_GAUGES, "MOST_FLOW_ROWS": MOST_FLOW_ROWS,
-            "MOST_RIVERS": model.MOST_RIVERS, "NO_FLOW": NO_FLOW, "LONGEST_SHEET": model.LONGEST_SHEET,
-            "STACK": 1 << used.bit_length()}
+            "MOST_RIVERS": model.MOST_RIVERS, "BLOCKS": MOST_BLOCKS, "NO_FLOW": NO_FLOW,
+            "LONGEST_SHEET": model.LONGEST_SHEET, "STACK": 1 << used.bit_length(), "SHARED_WORDS": SHARED_WORDS}
 
 
 def wanted_names(right: dict[str, int]) -> list[str]:
@@ -102,7 +103,7 @@ def wanted_names(right: dict[str, int]) -> list[str]:
     lines = [f"number {PREFIX}{name} {figure}" for name, figure in right.items()]
     lines += [f"number {PREFIX}{name} {number}" for number, name in enumerate(REFUSALS)]
     lines += [f"number {PREFIX}{name} {kinds[kind]}" for name, kind in KIND_NAMES.items()]
-    lines += [f"macro {PREFIX}{name} {entries * TRIED}" for name, entries in MACROS.items()]
+    lines += [f"macro {PREFIX}{name} {tried} {entries(tried)}" for name, entries in MACROS.items() for tried in TRIED]
     lines += [f"type {each.__name__}_has_{ctypes.sizeof(each)}_bytes 1" for each in CHECKED]
     for each in STRUCTS:
         lines.append(f"struct {each.__name__} {ctypes.sizeof(each)}")
@@ -148,6 +149,16 @@ class Situations:
         pool = self.pool()
         pool.open(number, sheets.write(self.good), 5)
         return answer_of(pool)
+
+    def started(self, highest: int) -> bool:
+        """A start of the longest river with so many highest figures is accepted."""
+        run = Run(self.library, random.Random(1), Tally(), sheets.write(sheets.still_reaches(MOST_SEGMENTS)), "")
+        run.shelf.add("highest", [0] * highest)
+        return run.start(run.n, 0, {})
+
+    def opened_with(self, entries: int) -> bool:
+        """An opening is accepted where each shared list is told to have so many entries."""
+        return self.pool().open(1, sheets.write(self.good), 5, told=dict.fromkeys(FIGURES, entries))
 
     def refusals(self) -> dict[str, Answer]:
         """What the library answers in the situation that each name of a refusal speaks of."""
@@ -200,6 +211,11 @@ class Situations:
         longest = sheets.write(sheets.fullest(random.Random(1)))
         if name == "MOST_RIVERS":
             return self.opened(figure)[0] == 0 and self.opened(figure + 1)[0] == 17
+        if name == "BLOCKS":        # the fewest that serve the longest river
+            return self.started(figure) and not self.started(figure - 1)
+        if name == "SHARED_WORDS":  # the fewest that serve as three lists
+            entries, over = divmod(figure, len(FIGURES))
+            return over == 0 and self.opened_with(entries) and not self.opened_with(entries - 1)
         if name == "NO_FLOW":       # the first that no sheet has
             return self.told(longest, row=figure)[0] == 13 and self.told(longest, row=figure - 1)[0] == 0
         if name == "LONGEST_SHEET":
@@ -331,6 +347,21 @@ NAMED = (                           # slips that a test of the calls alone does 
     ("area and area2 exchanged", r"(uint32_t )area;(.*?uint32_t )area2;", r"\1area2;\2area;"),
     ("storage and sediment exchanged in a macro",
      r"(\(r\)->storage.at, \(r\)->storage.length), (\(r\)->sediment.at, \(r\)->sediment.length)", r"\2, \1"),
+    ("a start told the length of another list for the highest figures",
+     r"(yumbaqel_start\(&told.*?highest\.at, river->)highest", r"\1sediment"),
+    ("a step told the length of another list for the highest figures",
+     r"(yumbaqel_step\(&told.*?highest\.at, river->)highest", r"\1channel"),
+    ("an opening lent the channel list for the highest figures",
+     r"(pool_open\(&told.*?, river->)highest(\.at, river->)highest", r"\1channel\2channel"),
+    ("a search in the wrong list",
+     r"(yumbaqel_search\(&told.*?river->)channel(\.at, river->)channel", r"\1storage\2storage"),
+    ("a search of the pool in the wrong list", r"(pool_search\(&told.*?shared->)channel(\.at)", r"\1sediment\2"),
+    ("a search with its two lists exchanged",
+     r"(river->channel\.at, river->channel\.length), (river->highest\.at, river->highest\.length)", r"\2, \1"),
+    ("a search of another segment count", r"(yumbaqel_search\(&told.*?river->loaded\.)segments", r"\1steps"),
+    ("a copy without the highest figures", r" +for [^\n]*HIGHEST_WORDS[^\n]*\n[^\n]*highest[^\n]*\n", r""),
+    ("a copy that shares the highest figures", r" +yumbaqel_river_lend_highest\(river, segments, words[^\n]*\n", r""),
+    ("a river of the pool without highest figures", r"(lend_highest\(river, )segments(, highest_words)", r"\g<1>0\2"),
 )
 
 

@@ -2,10 +2,10 @@
 
     python3 tests/test_library.py PATH_TO_ARCHIVE [--seed N] [--long [--minutes N]]
 
-Loadings, starts, steps, reports and lookups of U and of the flow, accepted and refused, are put to the library and
-to the model.  After each call every byte that was lent is compared, and the figures are held to the exact river fed
-the same calls: at most 6 x n, sediment 6 x n x Kd.  Then the examples are run, power failures and all, and the stack
-that the calls take is measured.
+Loadings, starts, steps, reports, searches and lookups of U and of the flow, accepted and refused, are put to the
+library and to the model.  After each call every byte that was lent is compared, and the figures are held to the exact
+river fed the same calls: at most 6 x n, sediment 6 x n x Kd.  Then the examples are run, power failures and all, what a
+search reads is seen, and the stack that the calls take is measured.
 The exit status is 0 only when every group ran, showed every answer that it must and agreed.
 """
 from __future__ import annotations
@@ -21,9 +21,11 @@ from typing import NamedTuple
 
 import groups
 import model
+import reads
+import searches
 import sheets
 import stack
-from calls import ACCEPTED, LISTS, Caller, Change, Difference, Run, Tally
+from calls import ABOVE, ACCEPTED, LISTS, Caller, Change, Difference, Run, Tally, entries
 from groups import MOST_SHOWN, Group, Trial, say
 from library import CALLS, INCLUDE, OLD, READINGS, ROOT, STRICT, Library, compiled
 from model import (COLUMNS, HIGHEST, HIGHEST_KD, MOST_FLOW_ROWS, MOST_REACHES, MOST_RIVERS, MOST_ROWS, MOST_SEGMENTS,
@@ -108,8 +110,9 @@ def wrong_pairs(case: sheets.Case) -> Trial:
         run.begin(5)
         run.lend_next_pair()
         for name in LISTS:
-            run.step(run.n, 7, MOST_STEPS, {name: run.n - 1})
-            run.step(run.n, HIGHEST + 1, MOST_STEPS, {name: run.n - 1})
+            short = {name: entries(name, run.n) - 1}
+            run.step(run.n, 7, MOST_STEPS, short)
+            run.step(run.n, HIGHEST + 1, MOST_STEPS, short)
 
         def changed(*changes: Change) -> None:
             before = {change.name: list(run.shelf.content[change.name]) for change in changes}
@@ -165,6 +168,7 @@ def own_river(case: sheets.Case) -> Trial:
                 run.move(u)
             for at in range(len(run.found.gauges)):
                 run.report(run.n, run.gauge(at), {})
+            searches.search_true(run)
         if run.moves != run.steps:
             raise Difference(f"{run.moves} steps made of {run.steps}")
     return trial
@@ -240,8 +244,9 @@ RUN_ANSWERS = {
     "start": {ACCEPTED, (13, None), (14, "segment"), (14, None)},
     "step": {ACCEPTED, (13, None), (14, "segment"), (14, None), (15, None)},
     "report": {ACCEPTED, (13, None), (14, "segment"), (14, None)},
+    "search": {ACCEPTED, ABOVE, (13, None)},
 }
-OWN_ANSWERS = {"step": {ACCEPTED, (15, None)},
+OWN_ANSWERS = {"step": {ACCEPTED, (15, None)}, "search": {ACCEPTED, ABOVE},
                **dict.fromkeys(("load", "rows", "gauge", "upstream", "flow", "start", "report"), {ACCEPTED})}
 LARGE_ANSWERS = {"load": {ACCEPTED}, "start": {ACCEPTED}, "step": {ACCEPTED}}
 FLOWS = sheets.draw_flow_river
@@ -282,12 +287,20 @@ GROUPS = (
           RUN_ANSWERS, True),
     Group("flow rows, figures at the highest",
           lambda rng: (run_of(each, 40) for each in sheets.highest_rivers(rng, 30, FLOWS)), RUN_ANSWERS, True),
+    Group("highest figures and searches", lambda rng: map(searches.every_block, searches.LENGTHS),
+          {"start": {ACCEPTED}, "step": {ACCEPTED}, "search": {ACCEPTED, ABOVE}}),
+    Group("searches of any lists", lambda rng: map(searches.any_lists, searches.LENGTHS),
+          {"search": {ACCEPTED, ABOVE}}),
+    Group("highest figures too short", lambda rng: map(searches.short_lists, searches.LENGTHS),
+          {"start": {ACCEPTED, (13, None), (14, None)}, "step": {ACCEPTED, (13, None), (15, None)},
+           "search": {ACCEPTED, (13, None)}}),
+    Group("highest figures at the cut", lambda rng: iter((searches.at_the_cut,)), {"search": {ACCEPTED, ABOVE}}),
     Group("the largest rivers", lambda rng: (run_of(each, 12) for each in chain(
         sheets.large_rivers(rng, 3), sheets.large_rivers(rng, 2, 8, FLOWS))), LARGE_ANSWERS, True),
 )
 
 
-# The examples, and the stack
+# The examples, what a search reads, and the stack
 
 
 def pulse() -> sheets.Draft:
@@ -398,34 +411,56 @@ def copied(state: model.State) -> model.State:
     return replace(state, C=list(state.C), Z=list(state.Z), W=list(state.W))
 
 
+def states(sheet: bytes) -> Iterator[model.State]:
+    """An accepted sheet's river as its start leaves it, and then after each step."""
+    found, rivers = model.rivers_on(sheet)
+    n, lists = len(rivers[0]), model.Lists(MOST_SEGMENTS)
+    lists.fill(rivers[0])
+    begun = model.State.of_length(n)
+    starts, concentrations = (list(each) for each in zip(*found.rows))
+    model.start(lists, n, begun, [0] * model.block_count(n), model.upstream(starts, concentrations, found.header.M, 0))
+    yield begun
+    yield from (after.state for after in model.run(sheet))
+
+
 def ahead_lines(sheet: bytes, gauge: int, limit: int, most: int) -> str:
     """What examples/ahead.c prints, by the model: a copy of the state runs on, U as it is, through the flow rows."""
     try:
-        found = model.read_sheet(sheet)
-        rivers = model.rivers_of(found)
+        found, rivers = model.rivers_on(sheet)
     except model.Refusal as refusal:
         return refused_line(refusal)
     n, at = len(rivers[0]), found.gauges[gauge - 1] - 1
     sets = [model.Lists(n) for _ in rivers]
     for lists, river in zip(sets, rivers):
         lists.fill(river)
-    starts, concentrations = (list(each) for each in zip(*found.rows))
-    begun = model.State.of_length(n)
-    model.start(sets[0], n, begun, model.upstream(starts, concentrations, found.header.M, 0))
+    highest = [0] * model.block_count(n)
     lines = []
-    for state in chain((begun,), (after.state for after in model.run(sheet))):
+    for state in states(sheet):
         if state.count % found.header.interval:
             continue
         copy = copied(state)
         while copy.C[at] <= limit and copy.count - state.count < most and copy.count < MOST_STEPS:
             pair = (sets[model.flow_in_force(sheet, copy.count + more)] for more in (0, 1))
-            model.step(*pair, n, copy, [0] * n, [0] * n, copy.U, MOST_STEPS)
+            model.step(*pair, n, copy, highest, [0] * n, [0] * n, copy.U, MOST_STEPS)
         taken = copy.count - state.count
         if copy.C[at] > limit:
             lines.append(f"step {state.count}: above in {taken} steps, {taken * found.header.dt} s\n")
         else:
             lines.append(f"step {state.count}: not above in {taken} steps\n")
     return "".join((*lines, f"done {found.header.M}\n"))
+
+
+def key_lines(sheet: bytes, limit: int) -> list[set[str]]:
+    """What examples/key.c may print, line by line: which of the segments above it names is left open."""
+    refusal = model.answer(sheet)
+    if refusal is not None:
+        return [{refused_line(refusal)}]
+    lines, header = [], model.read_sheet(sheet).header
+    for state in states(sheet):
+        if state.count % header.interval == 0:
+            above = {f"above at segment {at}" for at, figure in enumerate(state.C, 1) if figure > limit}
+            lines.append({f"step {state.count}: {word}\n" for word in above or {"none above"}})
+    return [*lines, {f"done {header.M}\n"}]
 
 
 class Example:
@@ -497,6 +532,20 @@ def run_ahead(archive: str, folder: Path, total: Tally) -> None:
     ahead.close(total)
 
 
+def run_key(archive: str, folder: Path, total: Tally) -> None:
+    """It says none exactly where no segment is above, and otherwise names one that is; a refusal as the others do."""
+    key = Example("key", archive, folder)
+    seen = set()
+    for sheet, limit in chain(product(example_sheets()[:-3], (0, 2_000, 100_000, 899_999, HIGHEST, 10 ** 10)),
+                              product(example_sheets()[-3:], (HIGHEST // 2,))):
+        found, wanted = key.run(sheet, limit).splitlines(keepends=True), key_lines(sheet, limit)
+        faults = [f"{line!r}, not one of {sorted(may)[:5]}" for line, may in zip(found, wanted) if line not in may]
+        key.hold(not faults and len(found) == len(wanted), f"limit {limit}, {len(found)} lines: {faults[:1]}")
+        seen |= {word for word in (": none above", ": above at", "refused 4\n") if word in "".join(found)}
+    key.hold(len(seen) == 3, f"shows too little: {seen}")
+    key.close(total)
+
+
 def run_reset(archive: str, folder: Path, total: Tally) -> None:
     """Power fails at every word that is written: the listing goes on from the last state that was whole."""
     reset = Example("reset", archive, folder)
@@ -513,7 +562,7 @@ def run_reset(archive: str, folder: Path, total: Tally) -> None:
         reset.compare(listed(sheet), wanted, "without a failure")
 
     draft = sheets.plain_flows().with_header(interval=1)
-    sheet, words = sheets.write(draft), 3 + 3 * draft.segments + 1
+    sheet, words = sheets.write(draft), 3 + 3 * draft.segments + model.block_count(draft.segments) + 1
     whole = model.listing(sheet).decode()
     lines, gauges, writes = whole.splitlines(keepends=True), len(draft.gauges), words * (draft.header.M + 1)
 
@@ -593,6 +642,16 @@ def run_waterworks(archive: str, folder: Path, total: Tally) -> None:
     waterworks.close(total)
 
 
+def run_reads(archive: str, folder: Path, total: Tally) -> None:
+    """A search that has one block to enter reads no segment of another, and none where it has no block to enter."""
+    found = reads.measured(archive, folder, searches.LENGTHS)
+    faults = found.wrong + (found.searches != reads.wanted(searches.LENGTHS))
+    for line in found.said[:MOST_SHOWN]:
+        say(f"  {line}")
+    total.differences += faults
+    say(f"reads: {found.searches} searches with one block to enter or none, {faults} differences")
+
+
 def run_stack(archive: str, folder: Path, total: Tally) -> None:
     """The stack that each call takes, on a painted stack; the header's figure is at least that."""
     found = stack.measured(archive, folder)
@@ -606,8 +665,10 @@ def run_stack(archive: str, folder: Path, total: Tally) -> None:
 def examples(archive: str, folder: Path, total: Tally) -> None:
     run_gate(archive, folder, total)
     run_ahead(archive, folder, total)
+    run_key(archive, folder, total)
     run_reset(archive, folder, total)
     run_waterworks(archive, folder, total)
+    run_reads(archive, folder, total)
     run_stack(archive, folder, total)
 
 

@@ -2,10 +2,10 @@
 
     python3 tests/test_pool.py PATH_TO_ARCHIVE [--seed N] [--long [--minutes N]]
 
-Openings, starts, steps, reports and closings, accepted and refused, are put to the library and to the model, whose
-rivers are kept apart.  After each call every byte that was lent is compared: the table, the shared lists, the river's
-own lists, and the guard words around them.  Each open river is held to the same river alone, by document 01's calls on
-lists of its own, and to its exact river: at most 6 x n, sediment 6 x n x Kd.
+Openings, starts, steps, reports, searches and closings, accepted and refused, are put to the library and to the model,
+whose rivers are kept apart.  After each call every byte that was lent is compared: the table, the shared lists, the
+river's own lists, the highest figures of every river, and the guard words around them.  Each open river is held to the
+same river alone, by the calls on lists of its own, and to its exact river: at most 6 x n, sediment 6 x n x Kd.
 The exit status is 0 only when every group ran, showed every answer that it must and agreed.
 """
 from __future__ import annotations
@@ -21,11 +21,13 @@ from typing import NamedTuple, Optional
 import groups
 import model
 import sheets
-from calls import ACCEPTED, Difference, Run, Shelf, Tally, draw_word
+from calls import ABOVE, ACCEPTED, Difference, Run, Shelf, Tally, draw_word, hold_search
 from groups import Group, Trial
 from library import FIGURES, OLD, WORKING, Library
-from model import COLUMNS, HIGHEST, HIGHEST_KD, MOST_SEGMENTS, MOST_STEPS, ONE_WHOLE, Segment, Slot, Table
+from model import (COLUMNS, HIGHEST, HIGHEST_KD, MOST_SEGMENTS, MOST_STEPS, NONE_ABOVE, ONE_WHOLE, Segment, Slot, Table,
+                   block_count)
 from pools import NUMBERS, OUTSIDE, PoolCalls, PoolRun, Shared, Told, replaced
+from searches import ABOVE_THE_CUT, LENGTHS, limits, untrue
 from sheets import HIGHEST_FIELD
 
 CLOSED = Slot(0, 7, HIGHEST_FIELD, HIGHEST_FIELD, 9)    # of no matter: no river is open under its number
@@ -135,7 +137,7 @@ def short_lists() -> list[dict]:
     for at in range(len(COLUMNS)):
         found.append({**long, "lengths": [N - (at == each) for each in range(len(COLUMNS))]})
     found += [{**long, "told": {name: length}} for name in FIGURES for length in (MOST_SEGMENTS - 1, N, 0)]
-    return found
+    return [*found, {**long, "told": {"highest": block_count(N) - 1}}]
 
 
 def openings(rng: random.Random) -> Iterator[Opening]:
@@ -203,6 +205,7 @@ FAULTS = (Fault("u", 0, HIGHEST + 1), Fault("e", 5, ONE_WHOLE + 1), Fault("Kd", 
 STATE_FAULTS = (*(Fault(name, at, HIGHEST + 1) for name in FIGURES for at in (0, 5)),
                 Fault("upstream", 0, HIGHEST + 1), Fault("steps", 0, MOST_STEPS + 1))
 BESIDE_FAULTS = (Fault("C", -1, HIGHEST_FIELD), Fault("Z", 6, HIGHEST_FIELD), Fault("W", 7, HIGHEST_FIELD))
+SKIPPED = Fault("highest", 0, HIGHEST_FIELD)        # at which 14 does not look
 
 
 def put_fault(pool: PoolCalls, shelf: Shelf, fault: Fault) -> None:
@@ -210,6 +213,10 @@ def put_fault(pool: PoolCalls, shelf: Shelf, fault: Fault) -> None:
         content = list(pool.shelf.content[fault.name])
         content[BESIDE[0] + fault.at] = fault.figure
         pool.put_pool(pool.table, {fault.name: content})
+    elif fault.name == "highest":
+        content = pool.highest(OPEN, {})
+        content[fault.at] = fault.figure
+        pool.shelf.put(pool.highest_name(OPEN), content)
     elif fault.name in Slot._fields:
         pool.put_pool(replaced(pool.table, OPEN, **{fault.name: fault.figure}))
     elif fault.name in shelf.content:
@@ -219,14 +226,20 @@ def put_fault(pool: PoolCalls, shelf: Shelf, fault: Fault) -> None:
 
 
 def order_of_calls(name: str) -> Trial:
-    """Every combination of a table, a short list and a figure at fault; a step's M and a report's segment are drawn."""
-    names = {"start": COLUMNS, "step": (*OLD, *COLUMNS, *WORKING), "report": COLUMNS}[name]
-    short = [{}, *shared_short(), *({each: BESIDE[1] - 1} for each in names)]
-    # 14 as each call looks for it: a start not at what it overwrites, a report at no U' of its own
+    """Every combination of a table, a short list and a figure at fault.
+
+    A step's M, a report's segment and a search's limit are drawn.
+    """
+    names = {"start": COLUMNS, "step": (*OLD, *COLUMNS, *WORKING), "report": COLUMNS, "search": ()}[name]
+    short = [{}, *(told for told in shared_short() if name != "search" or "C" in told),
+             *({each: BESIDE[1] - 1} for each in names)]
+    if name != "report":            # which is not lent them
+        short.append({"highest": block_count(BESIDE[1]) - 1})
+    # 14 as each call looks for it: a start not at what it overwrites, a report at no U' of its own, a search not at all
     old_side = (Fault(f"{each}0", 1, ONE_WHOLE + 1) for each in "ebh")
     found = {"start": FAULTS, "step": (*FAULTS, *STATE_FAULTS, *old_side),
-             "report": (*(each for each in FAULTS if each.name != "u"), *STATE_FAULTS)}[name]
-    ignored = (None, *BESIDE_FAULTS, *(STATE_FAULTS if name == "start" else ()))
+             "report": (*(each for each in FAULTS if each.name != "u"), *STATE_FAULTS), "search": ()}[name]
+    ignored = (None, *BESIDE_FAULTS, SKIPPED, *(STATE_FAULTS if name in ("start", "search") else ()))
 
     def trial(library: Library, rng: random.Random, tally: Tally) -> None:
         shared = figures(rng)
@@ -245,6 +258,8 @@ def order_of_calls(name: str) -> Trial:
                 segment = rng.choice((1, BESIDE[1], 0, BESIDE[1] + 1, HIGHEST_FIELD))
                 faults |= set() if 1 <= segment <= BESIDE[1] else {13}
                 pool.report(number, segment, shelf, told)
+            elif name == "search":
+                pool.search(number, rng.choice((0, u, HIGHEST, HIGHEST_FIELD)), told)
             else:
                 steps = rng.choice((3, 4, 0, MOST_STEPS))
                 faults |= {15} if steps <= 3 else set()
@@ -260,9 +275,10 @@ def no_segment(library: Library, rng: random.Random, tally: Tally) -> None:
         shelf = lend(pool, 1)
         for call, wanted in ((lambda: pool.start(2, 1, shelf), 13), (lambda: pool.step(2, 1, 9, shelf), 13),
                              (lambda: pool.report(2, 1, shelf), 13), (lambda: pool.start(2, HIGHEST + 1, shelf), 13),
+                             (lambda: pool.search(2, 0), 13), (lambda: pool.search(2, 0, {"highest": 0}), 13),
                              (lambda: pool.start(1, 1, lend(pool, 6)), 0),
                              (lambda: pool.open(3, sheet_of(4), 1), 0), (lambda: pool.close(2), 0),
-                             (lambda: pool.start(2, 1, shelf), 18)):
+                             (lambda: pool.start(2, 1, shelf), 18), (lambda: pool.search(2, 0), 18)):
             call()
             must(pool, wanted, f"a river of no segment at {first}")
 
@@ -382,6 +398,8 @@ def call_all(library: Library, rng: random.Random, tally: Tally, table: Table, b
         held("step")
         here.report(number, rng.randint(1, max(1, min(slot.segments, MOST_SEGMENTS))), shelf)
         held("report")
+        here.search(number, rng.choice((0, HIGHEST, rng.choice(SOME))))
+        held("search")
 
 
 def on_table(what: str, bad: bool, table: Table) -> Trial:
@@ -433,6 +451,11 @@ def fragments(lengths: list[int], closed: tuple[int, ...], new: list[int]) -> Tr
                 run.begin(number, case, u)
             must(run, wanted, f"river {number} of {segments} segments")
             run.hold_apart()
+            searched()
+
+        def searched() -> None:
+            for number in run.twins:
+                search_true(run, number, rng.sample(limits(rng, stretch_of(run, number)), 2))
 
         def stepped() -> None:
             for number, twin in run.twins.items():
@@ -442,6 +465,7 @@ def fragments(lengths: list[int], closed: tuple[int, ...], new: list[int]) -> Tr
                     raise Difference(f"a step of river {number} is refused")
                 run.put_alone("step", twin, u, MOST_STEPS, {})
                 run.hold_apart()
+            searched()
 
         for number, segments in enumerate(lengths, 1):
             opened(number, segments, 0)
@@ -451,6 +475,8 @@ def fragments(lengths: list[int], closed: tuple[int, ...], new: list[int]) -> Tr
                 raise Difference(f"river {number} is not closed")
             del run.twins[number]
             run.hold_apart()
+            run.search(number, 0)
+            must(run, 18, f"a search of river {number}, which is closed")
         stepped()
         free = MOST_SEGMENTS - sum(twin.n for twin in run.twins.values())
         for number, segments in zip(rng.sample(closed, len(closed)), new):
@@ -479,6 +505,119 @@ def fragmented(rng: random.Random) -> Iterator[Trial]:
         closed = tuple(rng.sample(range(1, count + 1), rng.randint(1, count)))
         free = MOST_SEGMENTS - sum(lengths) + sum(lengths[number - 1] for number in closed)
         yield fragments(lengths, closed, sheets.split(rng, free, rng.randint(1, min(len(closed), free))))
+
+
+# Highest figures and searches
+
+
+def stretch_of(pool: PoolCalls, number: int) -> list[int]:
+    """The channel figures of an open river."""
+    stretch = pool.table[number - 1].stretch
+    return pool.shelf.content["C"][stretch.start:stretch.stop]
+
+
+def search_true(pool: PoolCalls, number: int, at: list[int]) -> None:
+    """Searches at these limits of an open river, whose lists are as its calls left them."""
+    figures = stretch_of(pool, number)
+    for limit in at:
+        hold_search(pool.search(number, limit), figures, limit)
+
+
+def search_untrue(pool: PoolCalls, number: int) -> None:
+    """Searches with other highest figures, while all that is not the river's own is above every limit."""
+    name, figures, shared = pool.highest_name(number), stretch_of(pool, number), pool.shared["C"]
+    stretch, before, blocks = pool.table[number - 1].stretch, pool.highest(number, {}), block_count(len(figures))
+    others = [HIGHEST_FIELD] * len(shared)
+    others[stretch.start:stretch.stop] = figures
+    pool.put_pool(pool.table, {"C": others})
+    for limit in limits(pool.rng, figures):
+        for highest in untrue(pool.rng, before[:blocks], limit):
+            pool.shelf.put(name, highest + [HIGHEST_FIELD] * (len(before) - blocks))
+            found = pool.search(number, limit)
+            if all(figure <= limit for figure in highest) and found != NONE_ABOVE:
+                raise Difference(f"limit {limit}: segment {found} is named, and no block is to be entered")
+    pool.shelf.put(name, before)
+    pool.put_pool(pool.table, {"C": shared})
+
+
+def river_among(segments: int) -> Trial:
+    """A river of so many segments behind another one: its highest figures too short, long enough, true and not true."""
+    def trial(library: Library, rng: random.Random, tally: Tally) -> None:
+        pool = PoolCalls(library, rng, tally)
+        beside = min(5, MOST_SEGMENTS - segments)
+        blocks, sheet = block_count(segments), sheet_of(segments, True)
+
+        def opened(wanted: int, number: int, told: Told, u: int = 5) -> None:
+            pool.open(number, sheet, u, told=told)
+            must(pool, wanted, f"an opening of {segments} segments, told {told}, U {u}")
+
+        def searched() -> None:
+            search_true(pool, 2, limits(rng, stretch_of(pool, 2)))
+            if beside:
+                search_true(pool, 4, limits(rng, stretch_of(pool, 4)))
+
+        if beside:
+            pool.open(4, sheet_of(beside), 7)
+            must(pool, 0, "an opening beside it")
+            opened(17, 4, {"highest": 0})
+        for length in {blocks - 1, 0}:
+            opened(13, 2, {"highest": length})
+            opened(13, 2, {"highest": length}, HIGHEST + 1)
+            opened(17, 9, {"highest": length})
+        opened(14, 2, {"highest": blocks}, HIGHEST + 1)
+        opened(0, 2, {"highest": blocks})
+        searched()
+        shelf = lend(pool, segments)
+        for length in {blocks - 1, 0}:
+            told = {"highest": length}
+            for wanted, call in ((13, lambda: pool.start(2, 5, shelf, told)),
+                                 (13, lambda: pool.start(2, HIGHEST + 1, shelf, told)),
+                                 (13, lambda: pool.step(2, 5, 9, shelf, told)),
+                                 (13, lambda: pool.step(2, HIGHEST + 1, 9, shelf, told)),
+                                 (13, lambda: pool.step(2, 5, 0, shelf, told)),
+                                 (13, lambda: pool.search(2, 0, told)),
+                                 (13, lambda: pool.search(2, HIGHEST_FIELD, told)),
+                                 (13, lambda: pool.search(2, 0, {**told, "C": MOST_SEGMENTS - 1})),
+                                 (18, lambda: pool.start(3, 5, shelf, told)),
+                                 (18, lambda: pool.step(3, 5, 9, shelf, told)),
+                                 (18, lambda: pool.search(3, 0, told)),
+                                 (0, lambda: pool.report(2, 1, shelf, told))):
+                call()
+                must(pool, wanted, f"{segments} segments, told {told}")
+        for call in (lambda: pool.step(2, sheets.concentration(rng), MOST_STEPS, shelf, {"highest": blocks}),
+                     lambda: pool.step(2, sheets.concentration(rng), MOST_STEPS, shelf),
+                     lambda: pool.start(2, 6, shelf, {"highest": blocks}),
+                     lambda: pool.step(2, HIGHEST, MOST_STEPS, shelf)):
+            call()
+            must(pool, 0, f"{segments} segments")
+            searched()
+        any_state = {name: rng.choices(SOME, k=len(content)) for name, content in pool.shared.items()}
+        pool.put_pool(pool.table, any_state)            # figures that do not go by the reaches
+        pool.step(2, 6, MOST_STEPS, shelf)
+        must(pool, 0, f"{segments} segments")
+        search_true(pool, 2, limits(rng, stretch_of(pool, 2)))
+        search_untrue(pool, 2)
+        if beside:                      # the river behind is moved to the front, and its highest figures stay true
+            pool.close(4)
+            pool.open(5, sheet_of(beside), 8)
+            must(pool, 0, "an opening that moves the other")
+            search_true(pool, 2, limits(rng, stretch_of(pool, 2)))
+            pool.search(4, 0)
+            must(pool, 18, "a search of a river that is closed")
+    return trial
+
+
+def at_the_cut(library: Library, rng: random.Random, tally: Tally) -> None:
+    """A step whose C' is 1,000,000,001 before the cut at 10^9: the highest figure is that of the cut one."""
+    pool = pool_with(library, rng, tally, table_of((7, 1)), dict.fromkeys(FIGURES, [HIGHEST] * MOST_SEGMENTS))
+    shelf = lend(pool, 1)
+    for name, figure in ABOVE_THE_CUT.items():
+        shelf.put(name, [figure, *shelf.content[name][1:]])
+    pool.step(1, HIGHEST, MOST_STEPS, shelf)
+    must(pool, 0, "a step at the cut")
+    if (shelf.content["y"][0], pool.highest(1, {})[0]) != (HIGHEST + 1, HIGHEST):
+        raise Difference(f"before the cut {shelf.content['y'][0]}, the highest figure {pool.highest(1, {})[0]}")
+    search_true(pool, 1, limits(rng, stretch_of(pool, 1)))
 
 
 # Runs
@@ -577,6 +716,7 @@ def own_step(pool: PoolCalls, number: int, run: Run, lines: list[str]) -> None:
     if not pool.step(number, u, run.steps, run.shelf):
         raise Difference(f"step {run.moves + 1} of river {number} is refused")
     run.moves += 1
+    search_true(pool, number, pool.rng.sample(limits(pool.rng, stretch_of(pool, number)), 2))
     if run.moves % run.found.header.interval == 0:
         for gauge in run.found.gauges:
             if not pool.report(number, gauge, run.shelf):
@@ -593,28 +733,38 @@ CALLED = {ACCEPTED, (18, None), (13, None), (14, None), (14, "segment")}
 CLOSED_ANSWERS = {ACCEPTED, (18, None)}
 SHEET_ANSWERS = {ACCEPTED, *((number, None) for number in (1, 2, 3, 4, 5, 7, 17)), (6, "reach"), (8, "row"),
                  (9, "row"), (10, "segment"), (11, "segment"), (12, "segment"), (16, "row")}
+SEARCHED = {ACCEPTED, ABOVE, (18, None), (13, None)}
 RUN_ANSWERS = {"pool_open": {ACCEPTED, (17, None), (13, None), (14, None)}, "pool_start": CALLED,
-               "pool_step": CALLED | {(15, None)}, "pool_report": CALLED, "pool_close": CLOSED_ANSWERS}
+               "pool_step": CALLED | {(15, None)}, "pool_report": CALLED, "pool_search": SEARCHED,
+               "pool_close": CLOSED_ANSWERS}
 FULL_ANSWERS = {**dict.fromkeys(("pool_start", "pool_report", "pool_close"), {ACCEPTED}),
-                "pool_open": {ACCEPTED, (17, None)}, "pool_step": CALLED | {(15, None)}}
+                "pool_open": {ACCEPTED, (17, None)}, "pool_step": CALLED | {(15, None)},
+                "pool_search": {ACCEPTED, ABOVE}}
 TABLE_ANSWERS = {"pool_open": {ACCEPTED, (17, None), (18, None)}, "pool_close": CLOSED_ANSWERS,
+                 "pool_search": {ACCEPTED, ABOVE, (18, None)},
                  **dict.fromkeys(("pool_start", "pool_step", "pool_report"), {ACCEPTED, (18, None)})}
 
 GROUPS = (
     Group("the order of tests in an opening", lambda rng: map(order_of_opening, openings(rng)),
           {"pool_open": OPENED | SHEET_ANSWERS - {(7, None)}}),
-    Group("the order of tests in start, step and report", lambda rng: map(order_of_calls, ("start", "step", "report")),
-          {"pool_start": CALLED, "pool_step": CALLED | {(15, None)}, "pool_report": CALLED}),
-    Group("rivers of no segment", lambda rng: iter((no_segment,)), {"pool_start": {ACCEPTED, (13, None), (18, None)}}),
+    Group("the order of tests in start, step, report and search",
+          lambda rng: map(order_of_calls, ("start", "step", "report", "search")),
+          {"pool_start": CALLED, "pool_step": CALLED | {(15, None)}, "pool_report": CALLED, "pool_search": SEARCHED}),
+    Group("rivers of no segment", lambda rng: iter((no_segment,)),
+          {"pool_start": {ACCEPTED, (13, None), (18, None)}, "pool_search": {(13, None), (18, None)}}),
     Group("tables at the limits", lambda rng: (on_table(*each) for each in named_tables()), TABLE_ANSWERS),
     Group("tables of any content", lambda rng: (on_any_table for _ in range(200)), TABLE_ANSWERS),
     Group("openings of sheets of every kind", lambda rng: map(opening_of, sheets_of_every_kind(rng)),
           {"pool_open": SHEET_ANSWERS}),
-    Group("openings that only packing can serve", fragmented, {"pool_open": {ACCEPTED, (17, None)},
-                                                              "pool_step": {ACCEPTED}, "pool_close": {ACCEPTED}}),
+    Group("openings that only packing can serve", fragmented,
+          {"pool_open": {ACCEPTED, (17, None)}, "pool_step": {ACCEPTED}, "pool_close": {ACCEPTED},
+           "pool_search": {ACCEPTED, ABOVE, (18, None)}}),
+    Group("highest figures and searches", lambda rng: iter((*map(river_among, LENGTHS), at_the_cut)),
+          {"pool_open": {ACCEPTED, (17, None), (13, None), (14, None)}, "pool_search": SEARCHED,
+           **dict.fromkeys(("pool_start", "pool_step"), {ACCEPTED, (13, None), (18, None)})}),
     Group("the sheets' own rivers, eight at once", lambda rng: map(own_rivers, (12, 12, 20)),
           {"pool_open": {ACCEPTED}, "pool_step": {ACCEPTED, (15, None)}, "pool_report": {ACCEPTED},
-           "pool_close": {ACCEPTED}}),
+           "pool_search": {ACCEPTED, ABOVE}, "pool_close": {ACCEPTED}}),
     Group("calls of every kind, in fractions", lambda rng: small_pools(rng, 50), RUN_ANSWERS, True),
     Group("calls of every kind, between bounds", lambda rng: pools(rng, 14, 150, "brackets"), RUN_ANSWERS, True),
     Group("calls of every kind, beside the rivers alone", lambda rng: pools(rng, 30, 250, ""), RUN_ANSWERS),

@@ -888,7 +888,7 @@ def opening_imports(crate):
     """The same with the pool's table and U behind them."""
     at = "Rattle.opening.proofs" if crate == "opening" else "Rattle.opening.proofs"
     return f"""use Rattle.loading.proofs.Lent.{{RefsTo, ListsTo, rowsTo, ValuesTo, valuesTo, RoomsTo, lastTo, SameTo, heard-lastTo, one-fact, and-fact, says-all}}
-use {at}.Lent.{{behind, before, after, pool-before, pool-after, figure}}
+use {at}.Lent.{{behind, before, after, pool-before, pool-after, highest-before, highest-after, figure}}
 """
 
 
@@ -1737,17 +1737,17 @@ OPEN = Call(
     document="document 02",
     core="pool::open_lists",
     core_at=("pool", "open_lists"),
-    head="-- `open` meets its contract: the opening proper answers and writes the lists, the shared lists and the table, `fill_count` says by its answer\n-- how many records are due, and `fill` puts them in. Every list is passed on.",
+    head="-- `open` meets its contract: the opening proper answers and writes the lists, the shared lists, the highest figures and the table, `fill_count` says by its answer\n-- how many records are due, and `fill` puts them in. Every list is passed on.",
     exported="yumbaqel_pool_open",
     exported_head="-- `yumbaqel_pool_open` meets its contract: the opening answers, writes the lists and the table and fills the reach records, and `put_load` hands\n-- the answer out. Every list and every reference is passed on.",
-    imports=call_imports("Pool.{openAnswer, openColumns, openRecords, poolOpen}"),
+    imports=call_imports("Pool.{openAnswer, openColumns, openRecords, poolOpen, openHighest}"),
     lent=opening_imports,
-    lists=len(LISTS) + len(SHARED),
+    lists=len(LISTS) + len(SHARED) + 1,  # and the highest figures
     front=("river",),
     array=40,
-    given=" (pool-before z) river (figure z)",
-    subjects=("its answer", "the lists", "the pool"),
-    facts=(("Pooled", "pools", "pool-after ws", "poolOpen"),),
+    given=" (pool-before z) river (highest-before z) (figure z)",
+    subjects=("its answer", "the lists", "the pool", "the highest figures"),
+    facts=(("Pooled", "pools", "pool-after ws", "poolOpen"), ("Highest", "tops", "highest-after ws", "openHighest")),
 )
 
 

@@ -1,4 +1,4 @@
-"""The river of document 01, with requests 1 to 3 of document 02, in plain whole numbers: the one in Python.
+"""The river of document 01, with requests 1 to 3 and 5 of document 02, in plain whole numbers: the one in Python.
 
 The parts stand in document 01's order: the sheet and its tests, flow and
 half-step numbers, the sweep, the calls, the listing; before the listing stand
@@ -29,6 +29,7 @@ MOST_ROWS = 256
 MOST_GAUGES = 32
 MOST_FLOW_ROWS = 64
 MOST_RIVERS = 8                     # that share lists
+BLOCK = 16                          # segments that have one highest channel figure; a river's last block may have fewer
 LATERAL = 100_000                   # cm in a km: lateral flow is per km, dx in cm
 RATE_UNIT = 10 ** 9                 # rates are in 10^-9 per second
 KD_UNIT = 10 ** 6                   # Kd is in millionths of m3/g
@@ -584,9 +585,28 @@ class State:
         return min(len(self.C), len(self.Z), len(self.W))
 
 
+def block_count(segments: int) -> int:
+    """Each sixteen segments begun."""
+    return -(-segments // BLOCK)
+
+
+MOST_BLOCKS = block_count(MOST_SEGMENTS)
+
+
+def highest_figures(C: list[int]) -> list[int]:
+    """The highest channel figure of each sixteen segments of a river."""
+    return [max(C[at:at + BLOCK]) for at in range(0, len(C), BLOCK)]
+
+
 def test_lists(segments: int, shortest: int) -> None:
     """13. A lent list is shorter than the river, or the river has no segment or over 1,024."""
     if not 1 <= segments <= MOST_SEGMENTS or shortest < segments:
+        raise Refusal(13)
+
+
+def test_highest(segments: int, highest: list[int]) -> None:
+    """13 of start, step and search: one highest figure for each sixteen segments begun."""
+    if len(highest) < block_count(segments):
         raise Refusal(13)
 
 
@@ -639,23 +659,31 @@ def load(sheet: bytes, row: int, lists: Lists, records: list[Optional[Reach]]) -
     return fill(found, rivers[row], lists, records)
 
 
-def start(lists: Lists, segments: int, state: State, U: int) -> None:
+def keep_highest(segments: int, state: State, highest: list[int]) -> None:
+    """The highest figures are true after every start and step; what lies behind them stays."""
+    highest[:block_count(segments)] = highest_figures(state.C[:segments])
+
+
+def start(lists: Lists, segments: int, state: State, highest: list[int], U: int) -> None:
     """A start sets C, Z and W to the start figure, U to that of step 0 and the count to 0."""
     test_lists(segments, min(lists.shortest(), state.shortest()))
+    test_highest(segments, highest)
     river = lists.river(segments)
     test_figures(river, None, (U,), ())
     for figures in (state.C, state.Z, state.W):
         figures[:segments] = [part.start for part in river]
     state.U, state.count = U, 0
+    keep_highest(segments, state, highest)
 
 
-def step(old: Lists, lists: Lists, segments: int, state: State, p: list[int], y: list[int],
+def step(old: Lists, lists: Lists, segments: int, state: State, highest: list[int], p: list[int], y: list[int],
          new_U: int, M: int) -> None:
     """A step tests 13 to 15; it is lent the old side's set and, in `lists`, the new one's with CL, CB and the rest.
 
     After it the state's U is that step's U'.
     """
     test_lists(segments, min(old.shortest(), lists.shortest(), state.shortest(), len(p), len(y)))
+    test_highest(segments, highest)
     before, river = old.numbers(segments), lists.river(segments)
     test_figures(river, state, (state.U, new_U), (state.count, M), before)
     if state.count >= M:
@@ -665,6 +693,7 @@ def step(old: Lists, lists: Lists, segments: int, state: State, p: list[int], y:
     for lent, figures in zip((state.C, state.Z, state.W, p, y), swept):
         lent[:segments] = figures
     state.U, state.count = new_U, state.count + 1
+    keep_highest(segments, state, highest)
 
 
 def figures_at(lists: Lists, state: State, gauge: int) -> tuple[int, int, int]:
@@ -680,6 +709,21 @@ def report(lists: Lists, segments: int, state: State, gauge: int) -> tuple[int, 
         raise Refusal(13)
     test_figures(lists.river(segments), state, (state.U,), (state.count,))
     return figures_at(lists, state, gauge)
+
+
+NONE_ABOVE = 0                      # in place of a segment's number
+
+
+def search(segments: int, C: list[int], highest: list[int], limit: int) -> set[int]:
+    """A search tests 13 alone; of what it may answer the document leaves the choice open.
+
+    That is any segment above the limit in a block whose highest figure, true or not, is above it; none just where
+    there is no such segment.
+    """
+    test_lists(segments, len(C))
+    test_highest(segments, highest)
+    above = {at + 1 for at in range(segments) if highest[at // BLOCK] > limit and C[at] > limit}
+    return above or {NONE_ABOVE}
 
 
 def upstream(starts: list[int], concentrations: list[int], M: int, step_number: int) -> int:
@@ -741,8 +785,9 @@ def test_river(table: Table, number: int) -> None:
 class Pool:
     """Rivers under their numbers, kept apart: each open one has a state of its own, which no other one's call reaches.
 
-    A call is handed the table, and the length of the shortest shared list, as its caller has them: these decide 17,
-    18 and 13.  Figures come from the river's own state alone.
+    A call is handed the table, and the length of the shortest shared list that it is lent, as its caller has them:
+    these decide 17, 18 and 13.  Figures come from the river's own state alone; the highest figures are a list of the
+    river's own, whose blocks count from its own first segment.
     """
 
     def __init__(self) -> None:
@@ -759,7 +804,7 @@ class Pool:
         return found
 
     def open(self, number: int, sheet: bytes, row: int, lists: Lists, records: list[Optional[Reach]], shared: int,
-             table: Table, U: int) -> Loaded:
+             highest: list[int], table: Table, U: int) -> Loaded:
         """Loads and starts in one call: 1 to 12 and 16, then 17, 18 of the table alone, 13 and 14."""
         found, rivers = rivers_on(sheet)
         segments = len(rivers[0])
@@ -767,11 +812,12 @@ class Pool:
         test_table(table)
         test_loading(found, row, lists, records)
         test_lists(MOST_SEGMENTS, shared)
+        test_highest(segments, highest)
         if U > HIGHEST:
             raise Refusal(14)
         loaded = fill(found, rivers[row], lists, records)
         self.rivers[number] = State.of_length(segments)
-        start(lists, segments, self.rivers[number], U)
+        start(lists, segments, self.rivers[number], highest, U)
         return loaded
 
     def named(self, number: int, shared: int, table: Table) -> State:
@@ -780,18 +826,23 @@ class Pool:
         test_lists(MOST_SEGMENTS, shared)
         return self.rivers[number]
 
-    def start(self, number: int, lists: Lists, shared: int, table: Table, U: int) -> None:
+    def start(self, number: int, lists: Lists, shared: int, highest: list[int], table: Table, U: int) -> None:
         state = self.named(number, shared, table)
-        start(lists, len(state.C), state, U)
+        start(lists, len(state.C), state, highest, U)
 
-    def step(self, number: int, old: Lists, lists: Lists, shared: int, table: Table, p: list[int], y: list[int],
-             new_U: int, M: int) -> None:
+    def step(self, number: int, old: Lists, lists: Lists, shared: int, highest: list[int], table: Table, p: list[int],
+             y: list[int], new_U: int, M: int) -> None:
         state = self.named(number, shared, table)
-        step(old, lists, len(state.C), state, p, y, new_U, M)
+        step(old, lists, len(state.C), state, highest, p, y, new_U, M)
 
     def report(self, number: int, lists: Lists, shared: int, table: Table, gauge: int) -> tuple[int, int, int]:
         state = self.named(number, shared, table)
         return report(lists, len(state.C), state, gauge)
+
+    def search(self, number: int, shared: int, highest: list[int], table: Table, limit: int) -> set[int]:
+        """18, then 13; of the shared lists it is lent C alone."""
+        state = self.named(number, shared, table)
+        return search(len(state.C), state.C, highest, limit)
 
     def close(self, number: int, table: Table) -> None:
         """18 alone."""
@@ -809,6 +860,7 @@ class Lines(NamedTuple):
     loaded: Loaded
     lists: Lists
     state: State
+    highest: list[int]
     gauges: list[int]
 
 
@@ -834,9 +886,9 @@ def run(sheet: bytes) -> Iterator[Lines]:
     rows = words(sheet, loaded.rows_begin, loaded.rows * len(Row._fields))
     starts, concentrations = rows[0::2], rows[1::2]
     gauges = words(sheet, loaded.gauges_begin, loaded.gauges)
-    state = State.of_length(loaded.segments)
+    state, highest = State.of_length(loaded.segments), [0] * block_count(loaded.segments)
     p, y = [0] * loaded.segments, [0] * loaded.segments
-    start(lists, loaded.segments, state, upstream(starts, concentrations, loaded.M, 0))
+    start(lists, loaded.segments, state, highest, upstream(starts, concentrations, loaded.M, 0))
     held = None
     for number in range(1, loaded.M + 1):
         new_U = upstream(starts, concentrations, loaded.M, number)
@@ -845,8 +897,8 @@ def run(sheet: bytes) -> Iterator[Lines]:
             held = pair
             for lent, flow_row in zip((old, lists), pair):
                 lent.fill(rivers[flow_row])
-        step(old, lists, loaded.segments, state, p, y, new_U, loaded.M)
-        yield Lines(number, loaded, lists, state, gauges)
+        step(old, lists, loaded.segments, state, highest, p, y, new_U, loaded.M)
+        yield Lines(number, loaded, lists, state, highest, gauges)
 
 
 HEADING = "step segment channel storage sediment"

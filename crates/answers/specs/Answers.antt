@@ -1,9 +1,11 @@
 -- An answer as a C caller reads it: in numbers, since no enum crosses the boundary.
 use mathlib.Core.Path.{_≡_}
 use mathlib.Core.List.{List, [], _∷_}
+use mathlib.Core.Option.{Option, none, some}
 use Prim.Native.Nat.{ℕ}
 use Rattle.model.specs.Refusals.{Place, nothing, reach, segment, row, Outcome, accepted, refused, Finding, passes, fails}
 use Rattle.model.specs.Load.{Loaded}
+use Rattle.otis.specs.Outcomes.{handed}
 
 -- "its place, which is a reach, a segment, a row or nothing": its kind, 0 for nothing
 abbrev pub kindNumber : Place → ℕ
@@ -43,3 +45,15 @@ foundBy (refused number place) = fails number place
 abbrev pub loadedValues : Loaded → List ℕ
 loadedValues v =
     v .steps ∷ v .interval ∷ v .segments ∷ v .rowsAt ∷ v .rows ∷ v .gaugesAt ∷ v .gauges ∷ v .flowRowsAt ∷ v .flowRows ∷ []
+
+-- what a search found: 0 for none, which is the number of no segment
+abbrev pub segmentNumber : Option ℕ → ℕ
+segmentNumber none = 0
+segmentNumber (some number) = number
+
+-- what a search hands out, for one of the answers that it may give
+pub record SearchHanded (Answer : Outcome (Option ℕ) → Type 0) (number kind place before after : ℕ) : Type 0 where
+  pub answer : Outcome (Option ℕ)
+  pub allowed : Answer answer
+  pub told : Told (foundBy answer) number kind place
+  pub segment : after ≡ handed answer segmentNumber before

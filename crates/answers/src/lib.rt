@@ -6,12 +6,14 @@ ghost use Rattle.assembly.specs.Says.{loadSays};
 ghost use Rattle.boundary.specs.Says.{upstreamSays};
 ghost use Rattle.otis.specs.Says.{startSays, stepSays, reportSays};
 ghost use Rattle.otis.specs.Outcomes.{handed};
-ghost use Rattle.answers.specs.Answers.{kindNumber, placeNumber, foundBy, Told, loadedValues};
+ghost use Rattle.search.specs.Says.{searchSays};
+ghost use Rattle.answers.specs.Answers.{kindNumber, placeNumber, foundBy, Told, loadedValues, segmentNumber};
 use assembly::Load;
 use boundary::Upstream;
 use otis::Report;
 use otis::Start;
 use otis::Step;
+use search::Search;
 use terms::Finding;
 use terms::Place;
 
@@ -164,6 +166,30 @@ pub fn put_upstream(
             put_refusal(0, Place::Nothing, number, kind, place);
         }
         Upstream::Refused(refusal, at) => put_refusal(refusal, at, number, kind, place),
+    }
+}
+
+// `segment` is 0 where none was found.
+pub fn put_search(
+    answer: Search,
+    number: &mut u32,
+    kind: &mut u32,
+    place: &mut u32,
+    segment: &mut u32,
+)
+    ensures told { λ _. ⌜ Told (foundBy (searchSays answer)) (exit number) (exit kind) (exit place) ⌝ }
+    ensures segment { λ _. ⌜ exit segment ≡ handed (searchSays answer) segmentNumber (entry segment) ⌝ }
+{
+    match answer {
+        Search::Found(i) => {
+            *segment = i;
+            put_refusal(0, Place::Nothing, number, kind, place);
+        }
+        Search::Nothing => {
+            *segment = 0;
+            put_refusal(0, Place::Nothing, number, kind, place);
+        }
+        Search::Refused(refusal, at) => put_refusal(refusal, at, number, kind, place),
     }
 }
 

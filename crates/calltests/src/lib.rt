@@ -53,10 +53,11 @@ pub fn start_test(
     channel: &[u32],
     storage: &[u32],
     sediment: &[u32],
+    highest: &[u32],
     u: u32,
 ) -> Finding
     ensures { λ r. ⌜ findingSays r ≡ first (startTests n (columns entry e g l a b k ks h m s cl cb kd start)
-        (state entry channel storage sediment 0 0) u) ⌝ }
+        (state entry channel storage sediment 0 0) (entry highest) u) ⌝ }
 {
     if river_fault(
         n,
@@ -78,6 +79,9 @@ pub fn start_test(
         storage,
         sediment,
     ) {
+        return Finding::Fails(13, Place::Nothing);
+    }
+    if highest.len() < blocks::count(n) {
         return Finding::Fails(13, Place::Nothing);
     }
     let count = n as usize;

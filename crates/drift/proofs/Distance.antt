@@ -53,21 +53,21 @@ module _ (sheet : List ℕ) where
   }
 
   -- an accepted start, from any state and any river
-  start-good : (lent : Lent) (state : State) (u : ℕ) (q r : Exact) → first (startTests (lent .count) (lent .columns) state u) ≡ passes → AsLoaded sheet lent →
+  start-good : (lent : Lent) (state : State) (highest : List ℕ) (u : ℕ) (q r : Exact) → first (startTests (lent .count) (lent .columns) state highest u) ≡ passes → AsLoaded sheet lent →
       ExactEvent sheet (started u) q r → Good (stateAfterStart (accepted (startValues u)) (lent .count) (lent .columns) state) r
-  start-good lent state u q r e loaded ExactEvent.starts =
+  start-good lent state highest u q r e loaded ExactEvent.starts =
       let lists = loaded .lists in
-      let figures = rw (lists .segments) at (Tests.started (lent .count) (lent .columns) state u e) in
+      let figures = rw (lists .segments) at (Tests.started (lent .count) (lent .columns) state highest u e) in
       let close = rw (same-starts sheet (loaded .flow)) at (start-close figures) in
       rw (lists .segments)
       (written _ u 0 0 _ [] state refl (length-map (loadedSegments sheet 0) exactStart ∙ length-tab _ 0 (segmentCount sheet)) close)
 
   -- an accepted step
-  step-good : (old : NumberSet) (lent : Lent) (state : State) (working : Working) (u′ M : ℕ) (q r : Exact) →
-      first (stepTests (lent .count) old (lent .columns) state working u′ M) ≡ passes → PairAsLoaded sheet (state .steps) old lent → Good state q →
+  step-good : (old : NumberSet) (lent : Lent) (state : State) (highest : List ℕ) (working : Working) (u′ M : ℕ) (q r : Exact) →
+      first (stepTests (lent .count) old (lent .columns) state highest working u′ M) ≡ passes → PairAsLoaded sheet (state .steps) old lent → Good state q →
       ExactEvent sheet (moved u′) q r → Good (stateAfterStep (accepted (stepValues state u′)) (lent .count) old (lent .columns) state) r
-  step-good old lent state working u′ M q r e pair g (ExactEvent.moves {new} solves) =
-      let facts = Tests.stepped (lent .count) (lent .columns) state old working u′ M e in
+  step-good old lent state highest working u′ M q r e pair g (ExactEvent.moves {new} solves) =
+      let facts = Tests.stepped (lent .count) (lent .columns) state old highest working u′ M e in
       let pairs = pairs-as-loaded old pair in
       let oks = rw pairs at (facts .pairs) in
       let close = step-close (state .upstream) u′ (facts .before) (facts .after) oks (g .close) (rw (← (g .upstream), ← (g .counted)) at solves) in
@@ -78,19 +78,19 @@ module _ (sheet : List ℕ) where
   pub call-good : (state : State) (call : Call) (q r : Exact) → (T (accepts state call) → LentFrom sheet state call) → Good state q →
       ExactEvent sheet (event (accepts state call) call) q r → Good (after state call) r
   unfolding accepts after startAnswer startState stepAnswer stepState
-  call-good state (start lent u) q r lists g x = go (first (startTests (lent .count) (lent .columns) state u)) r refl lists x
+  call-good state (start lent highest u) q r lists g x = go (first (startTests (lent .count) (lent .columns) state highest u)) r refl lists x
     where
-      go : (t : Finding) (r : Exact) → first (startTests (lent .count) (lent .columns) state u) ≡ t → (T (isAccepted (answer t (startValues u))) → AsLoaded sheet lent) →
-          ExactEvent sheet (event (isAccepted (answer t (startValues u))) (start lent u)) q r → Good (stateAfterStart (answer t (startValues u)) (lent .count) (lent .columns) state) r
-      go passes r e lists x = start-good lent state u q r e (lists tt) x
+      go : (t : Finding) (r : Exact) → first (startTests (lent .count) (lent .columns) state highest u) ≡ t → (T (isAccepted (answer t (startValues u))) → AsLoaded sheet lent) →
+          ExactEvent sheet (event (isAccepted (answer t (startValues u))) (start lent highest u)) q r → Good (stateAfterStart (answer t (startValues u)) (lent .count) (lent .columns) state) r
+      go passes r e lists x = start-good lent state highest u q r e (lists tt) x
       go (fails number place) r e lists ExactEvent.stays = g
-  call-good state (step old lent working u′ M) q r lists g x = go (first (stepTests (lent .count) old (lent .columns) state working u′ M)) r refl lists x
+  call-good state (step old lent highest working u′ M) q r lists g x = go (first (stepTests (lent .count) old (lent .columns) state highest working u′ M)) r refl lists x
     where
-      go : (t : Finding) (r : Exact) → first (stepTests (lent .count) old (lent .columns) state working u′ M) ≡ t →
+      go : (t : Finding) (r : Exact) → first (stepTests (lent .count) old (lent .columns) state highest working u′ M) ≡ t →
           (T (isAccepted (answer t (stepValues state u′))) → PairAsLoaded sheet (state .steps) old lent) →
-          ExactEvent sheet (event (isAccepted (answer t (stepValues state u′))) (step old lent working u′ M)) q r →
+          ExactEvent sheet (event (isAccepted (answer t (stepValues state u′))) (step old lent highest working u′ M)) q r →
           Good (stateAfterStep (answer t (stepValues state u′)) (lent .count) old (lent .columns) state) r
-      go passes r e lists x = step-good old lent state working u′ M q r e (lists tt) g x
+      go passes r e lists x = step-good old lent state highest working u′ M q r e (lists tt) g x
       go (fails number place) r e lists ExactEvent.stays = g
   call-good state (report lent number) q r lists g x = go (accepts state (report lent number)) r x
     where
@@ -105,14 +105,14 @@ module _ (sheet : List ℕ) where
   run-good state (call ∷ calls) q t (Fed.more lists f) g (ExactRun.more {r} x xs) = run-good (after state call) calls r t f (call-good state call q r lists g x) xs
 
   -- the first call, an accepted start
-  pub begin-good : (state : State) (lent : Lent) (u : ℕ) (q r : Exact) → T (accepts state (start lent u)) → AsLoaded sheet lent →
-      ExactEvent sheet (event (accepts state (start lent u)) (start lent u)) q r → Good (after state (start lent u)) r
+  pub begin-good : (state : State) (lent : Lent) (highest : List ℕ) (u : ℕ) (q r : Exact) → T (accepts state (start lent highest u)) → AsLoaded sheet lent →
+      ExactEvent sheet (event (accepts state (start lent highest u)) (start lent highest u)) q r → Good (after state (start lent highest u)) r
   unfolding accepts after startAnswer startState
-  begin-good state lent u q r a lists x = go (first (startTests (lent .count) (lent .columns) state u)) refl a x
+  begin-good state lent highest u q r a lists x = go (first (startTests (lent .count) (lent .columns) state highest u)) refl a x
     where
-      go : (t : Finding) → first (startTests (lent .count) (lent .columns) state u) ≡ t → T (isAccepted (answer t (startValues u))) →
-          ExactEvent sheet (event (isAccepted (answer t (startValues u))) (start lent u)) q r → Good (stateAfterStart (answer t (startValues u)) (lent .count) (lent .columns) state) r
-      go passes e a x = start-good lent state u q r e lists x
+      go : (t : Finding) → first (startTests (lent .count) (lent .columns) state highest u) ≡ t → T (isAccepted (answer t (startValues u))) →
+          ExactEvent sheet (event (isAccepted (answer t (startValues u))) (start lent highest u)) q r → Good (stateAfterStart (answer t (startValues u)) (lent .count) (lent .columns) state) r
+      go passes e a x = start-good lent state highest u q r e lists x
       go (fails number place) e a x = absurd a
 
   -- ---- the exact river exists
@@ -121,8 +121,8 @@ module _ (sheet : List ℕ) where
   call-exists state call q size = go (accepts state call) call
     where
       go : (b : Bool) (call : Call) → (r : Exact) × ExactEvent sheet (event b call) q r
-      go true (start lent u) = (_, ExactEvent.starts)
-      go true (step old lent working u′ M) = (_, ExactEvent.moves (exists _ _ (sheetPairs sheet (q .n)) (q .now) (size ∙ sym (length-tab _ 0 (segmentCount sheet))) .1))
+      go true (start lent highest u) = (_, ExactEvent.starts)
+      go true (step old lent highest working u′ M) = (_, ExactEvent.moves (exists _ _ (sheetPairs sheet (q .n)) (q .now) (size ∙ sym (length-tab _ 0 (segmentCount sheet))) .1))
       go true (report lent number) = (q, ExactEvent.stays)
       go false call = (q, ExactEvent.stays)
 

@@ -1,6 +1,7 @@
 -- What the tests of an accepted start or step say of what it was lent.
 use mathlib.Core.Path.{_≡_}
 use mathlib.Core.Bool.{Bool, false, _||_}
+use mathlib.Core.List.{List}
 use Prim.Native.Nat.{ℕ, zero, suc, _+_, _≤_, _<_}
 use native.Mathlib.Omega.{arith}
 use borrow.Author.Tests.{ltb-false}
@@ -55,11 +56,11 @@ module _ (n : ℕ) (columns : Columns) (state : State) where
   unfolding startFault
   sound-at i e = sound _ _ e
 
-  -- an accepted start
-  pub started : (u : ℕ) → first (startTests n columns state u) ≡ passes → All (λ x. x .start ≤ highest) (segmentsOf n columns)
+  -- an accepted start; `lent` are the highest figures that it was lent
+  pub started : (lent : List ℕ) (u : ℕ) → first (startTests n columns state lent u) ≡ passes → All (λ x. x .start ≤ highest) (segmentsOf n columns)
   unfolding startTests
-  started u e =
-      let clear = each-clear 14 segment n (startFault n columns) (all-pass (startTests n columns state u) e .1 .0) in
+  started lent u e =
+      let clear = each-clear 14 segment n (startFault n columns) (all-pass (startTests n columns state lent u) e .1 .0) in
       all-tab 0 n (segmentAt columns) (λ i a b. sound-at i (clear i (omega arith)) .start)
 
   -- an accepted step
@@ -79,10 +80,10 @@ module _ (n : ℕ) (columns : Columns) (state : State) where
   unfolding heldFault
   clear-upstream e = at-most _ (neither (outside concentration (state .upstream)) _ e .0)
 
-  pub stepped : (old : NumberSet) (working : Working) (u′ M : ℕ) → first (stepTests n old columns state working u′ M) ≡ passes → Stepped old u′
+  pub stepped : (old : NumberSet) (lent : List ℕ) (working : Working) (u′ M : ℕ) → first (stepTests n old columns state lent working u′ M) ≡ passes → Stepped old u′
   unfolding stepTests
-  stepped old working u′ M e =
-      let pass = all-pass (stepTests n old columns state working u′ M) e in
+  stepped old lent working u′ M e =
+      let pass = all-pass (stepTests n old columns state lent working u′ M) e in
       let clear = each-clear 14 segment n (λ i. oldFault n old i || stateFault n columns state i) (pass .1 .0) in
       let scalars = neither (heldFault state || outside concentration u′) _ (test-clear 14 _ (pass .1 .1 .0)) in
       let upstream = neither (heldFault state) _ (scalars .0) in

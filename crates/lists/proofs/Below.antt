@@ -1,12 +1,12 @@
--- Laws of `anyBelow` and `sumBelow`.
+-- Laws of `anyBelow`, `sumBelow` and `highestBelow`.
 use mathlib.Core.Path.{_≡_, refl, sym, ap, _∙_}
 use mathlib.Core.Bool.{Bool, true, false, cond, _||_, or-true}
 use mathlib.Core.Logic.{⊎-elim}
-use Prim.Native.Nat.{ℕ, zero, suc, _+_, _<_, _≤_}
+use Prim.Native.Nat.{ℕ, zero, suc, _+_, _<_, _≤_, max}
 use native.Mathlib.Nat.{eq-or-lt-of-le}
 use native.Mathlib.Numerals.{add-one}
 use native.Mathlib.Omega.{arith}
-use Rattle.lists.specs.Lists.{anyBelow, sumBelow}
+use Rattle.lists.specs.Lists.{anyBelow, sumBelow, highestBelow}
 use Rattle.lists.proofs.Shorter.{neither}
 
 -- ---- one of 0, .., n − 1
@@ -85,3 +85,31 @@ any-sum f (suc n) = either (anyBelow n f) (f n) (sumBelow n (λ i. cond (f i) 1 
     either true b s h = omega arith
     either false true s h = omega arith
     either false false s h = omega arith
+
+-- ---- the highest of 0, .., n − 1
+
+-- a loop at its start
+pub highest-start : (f : ℕ → ℕ) → 0 ≡ highestBelow 0 f
+unfolding highestBelow
+highest-start f = refl
+
+-- one turn
+pub highest-turn : (f : ℕ → ℕ) (n h h′ : ℕ) → h ≡ highestBelow n f → h′ ≡ max h (f n) → h′ ≡ highestBelow (n + 1) f
+unfolding highestBelow
+highest-turn f n h h′ e q = q ∙ rw (add-one n, e)
+
+-- none is above it
+pub highest-most : (f : ℕ → ℕ) (n i : ℕ) → i < n → f i ≤ highestBelow n f
+unfolding highestBelow
+highest-most f zero i h = absurd (omega arith)
+highest-most f (suc n) i h =
+    ⊎-elim
+    (λ q. let e : f i ≡ f n = ap f q in omega arith)
+    (λ q. omega (arith, highest-most f n i q))
+    (let l : i ≤ n = omega arith in eq-or-lt-of-le l)
+
+-- it rests on these alone
+pub highest-cong : (f g : ℕ → ℕ) (n : ℕ) → ((i : ℕ) → i < n → f i ≡ g i) → highestBelow n f ≡ highestBelow n g
+unfolding highestBelow
+highest-cong f g zero same = refl
+highest-cong f g (suc n) same = rw (highest-cong f g n (λ i h. same i (omega arith)), same n (omega arith))

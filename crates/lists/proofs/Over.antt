@@ -14,6 +14,10 @@ module _ {ℓ} {A : Type ℓ} where
   pub length-over : (xs before : List A) → length xs ≤ length before → length (over xs before) ≡ length before
   length-over xs before h = simp (length-append, length-drop) (omega arith)
 
+  -- and never less
+  pub over-long : (xs before : List A) → length before ≤ length (over xs before)
+  over-long xs before = simp (length-append, length-drop) (omega arith)
+
   -- the first entries are the new ones
   pub getD-over : (xs before : List A) (i : ℕ) (d : A) → i < length xs → getD (over xs before) i d ≡ getD xs i d
   getD-over xs before i d h = List·getD-append xs (drop (length xs) before) d i h

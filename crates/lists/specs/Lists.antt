@@ -1,7 +1,7 @@
 -- Lists of any length and content, as a caller lends them: a table of values, what a call writes, the lowest entry at fault, a stretch.
 use mathlib.Core.Bool.{Bool, false, cond, _||_}
 use mathlib.Core.List.{List, [], _∷_, _++_}
-use Prim.Native.Nat.{ℕ, zero, suc, _+_}
+use Prim.Native.Nat.{ℕ, zero, suc, _+_, max}
 use lib.Dec.{leb, ltb}
 use lib.ListN.{length, getD, take, drop}
 
@@ -50,3 +50,8 @@ anyBelow (suc n) f = anyBelow n f || f n
 unfoldable pub sumBelow : ℕ → (ℕ → ℕ) → ℕ
 sumBelow zero f = 0
 sumBelow (suc n) f = sumBelow n f + f n
+
+-- the highest of f at 0, .., n − 1, or 0 where that is higher
+unfoldable pub highestBelow : ℕ → (ℕ → ℕ) → ℕ
+highestBelow zero f = 0
+highestBelow (suc n) f = max (highestBelow n f) (f n)

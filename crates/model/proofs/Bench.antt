@@ -10,14 +10,15 @@ use Rattle.model.specs.HalfStep.{ad, isLast, adAbove, adBelow, eOf, gOf,
 use Rattle.model.specs.Sweep.{P, N, F, R, rowOf, newStorage, newSediment, newFigures, downward, stepped}
 use Rattle.model.specs.State.{pairAt, numbersAt, segmentAt, writeSegments, figuresAt, writeFigures}
 use Rattle.model.specs.Load.{testFlows, unmarked, walk, startsLate, rowFault, gaugeFault, flowFault, faceFault, sumFault, sheetTests, courseTests, listTests, loadTests, loaded, loadAnswer, loadColumns}
+use Rattle.model.specs.Highest.{blocksFault}
 use Rattle.model.specs.Calls.{oldFault, numbersFault, riverFault, segmentFault, figureFault, startFault, stateFault, heldFault, startTests, startAnswer, startState, stepTests, stepAnswer, stepState, stepWorking, reportTests, reported, reportAnswer}
 use Rattle.model.specs.Bench.{bytes, allBytes, brook, zeros, noState, noWork, brookRefusal, slope, brook2, started2, bench, listed, listedColumns, listedState, listing, Agree}
 
 pub bench-holds : Agree bench
-unfolding lowestFrom lowest anyShorter notRising nearest floorDiv outside anyOutside startsWith field headerField sectionEnd rowCountAt gaugeCountAt sheetEnd recordField reachFields reachOf reachOn reaches rowStarts rowConcentrations gauges totalSegments segmentCount alongRiver courseOf reachAt ownGain gain flow discharge ad isLast adAbove adBelow eOf gOf rateOf numbers loadedSegment P N F R rowOf newStorage newSediment newFigures downward stepped segmentAt writeSegments figuresAt writeFigures unmarked walk startsLate rowFault gaugeFault flowFault faceFault sumFault sheetTests courseTests listTests loadTests loaded loadAnswer loadColumns riverFault segmentFault figureFault startFault stateFault heldFault startTests startAnswer startState stepTests stepAnswer stepState stepWorking bytes allBytes brook zeros noState noWork brookRefusal slope brook2 started2 bench topOf sections hasFlowRows flowRowCountAt flowRowCount testFlows numbersFault numbersAt oldFault pairAt
+unfolding blocksFault lowestFrom lowest anyShorter notRising nearest floorDiv outside anyOutside startsWith field headerField sectionEnd rowCountAt gaugeCountAt sheetEnd recordField reachFields reachOf reachOn reaches rowStarts rowConcentrations gauges totalSegments segmentCount alongRiver courseOf reachAt ownGain gain flow discharge ad isLast adAbove adBelow eOf gOf rateOf numbers loadedSegment P N F R rowOf newStorage newSediment newFigures downward stepped segmentAt writeSegments figuresAt writeFigures unmarked walk startsLate rowFault gaugeFault flowFault faceFault sumFault sheetTests courseTests listTests loadTests loaded loadAnswer loadColumns riverFault segmentFault figureFault startFault stateFault heldFault startTests startAnswer startState stepTests stepAnswer stepState stepWorking bytes allBytes brook zeros noState noWork brookRefusal slope brook2 started2 bench topOf sections hasFlowRows flowRowCountAt flowRowCount testFlows numbersFault numbersAt oldFault pairAt
 bench-holds = (refl, (refl, (refl, (refl, (refl, (refl, (refl, (refl, (refl, (refl, (refl, tt)))))))))))
 
 -- The listing's figures hold of the definitions, from the sheet's bytes to the reports of its two steps.
 pub listing-holds : Agree listing
-unfolding lowestFrom lowest anyShorter notRising nearest floorDiv outside anyOutside startsWith field headerField sectionEnd rowCountAt gaugeCountAt sheetEnd recordField reachFields reachOf reachOn reaches rowStarts rowConcentrations gauges totalSegments segmentCount alongRiver courseOf reachAt ownGain gain flow discharge ad isLast adAbove adBelow eOf gOf rateOf numbers loadedSegment P N F R rowOf newStorage newSediment newFigures downward stepped segmentAt writeSegments figuresAt writeFigures unmarked walk startsLate rowFault gaugeFault flowFault faceFault sumFault sheetTests courseTests listTests loadTests loaded loadAnswer loadColumns riverFault segmentFault figureFault startFault stateFault heldFault startTests startAnswer startState stepTests stepAnswer stepState reportTests reported reportAnswer bytes allBytes zeros noState noWork listed listedColumns listedState listing sections hasFlowRows flowRowCountAt flowRowCount testFlows topOf numbersFault numbersAt oldFault pairAt
+unfolding blocksFault lowestFrom lowest anyShorter notRising nearest floorDiv outside anyOutside startsWith field headerField sectionEnd rowCountAt gaugeCountAt sheetEnd recordField reachFields reachOf reachOn reaches rowStarts rowConcentrations gauges totalSegments segmentCount alongRiver courseOf reachAt ownGain gain flow discharge ad isLast adAbove adBelow eOf gOf rateOf numbers loadedSegment P N F R rowOf newStorage newSediment newFigures downward stepped segmentAt writeSegments figuresAt writeFigures unmarked walk startsLate rowFault gaugeFault flowFault faceFault sumFault sheetTests courseTests listTests loadTests loaded loadAnswer loadColumns riverFault segmentFault figureFault startFault stateFault heldFault startTests startAnswer startState stepTests stepAnswer stepState reportTests reported reportAnswer bytes allBytes zeros noState noWork listed listedColumns listedState listing sections hasFlowRows flowRowCountAt flowRowCount testFlows topOf numbersFault numbersAt oldFault pairAt
 listing-holds = (refl, (refl, tt))

@@ -6,3 +6,4 @@ pub mod Bench
 pub mod FlowBench
 pub mod LateralBench
 pub mod PoolBench
+pub mod SearchBench

@@ -71,7 +71,7 @@ brook2 = loadColumns (brook 1 0 2 3000) 0 1 (zeros 2)
 
 -- its start, with U 3,000
 unfoldable pub started2 : State
-started2 = startState 2 brook2 (noState 2) 3000
+started2 = startState 2 brook2 (noState 2) (0 ∷ []) 3000
 
 -- a line of a table: its number, what the definitions give and what the figures are to be, here those that the documents print
 pub record Line : Type 0 where
@@ -95,8 +95,8 @@ bench =
     record { number = 8; given = brookRefusal 2 1001; printed = 11 ∷ [] } ∷
     record { number = 9; given = brookRefusal 3 1001; printed = 11 ∷ [] } ∷
     -- "after one step C is 1,035 and 207"; "there p of segment 1 is 178,956,971"
-    record { number = 10; given = stepState 2 (brook2 .numbers) brook2 started2 (noWork 2) 3000 1 .channel; printed = 1035 ∷ 207 ∷ [] } ∷
-    record { number = 11; given = getD (stepWorking 2 (brook2 .numbers) brook2 started2 (noWork 2) 3000 1 .p) 0 0 ∷ []; printed = 178956971 ∷ [] } ∷
+    record { number = 10; given = stepState 2 (brook2 .numbers) brook2 started2 (0 ∷ []) (noWork 2) 3000 1 .channel; printed = 1035 ∷ 207 ∷ [] } ∷
+    record { number = 11; given = getD (stepWorking 2 (brook2 .numbers) brook2 started2 (0 ∷ []) (noWork 2) 3000 1 .p) 0 0 ∷ []; printed = 178956971 ∷ [] } ∷
     []
 
 -- The listing's river: "Brook, one segment, dt 2, M 2, interval 1, Q 0, AS 100, LAMHAT and LAMHAT2 each 500,000,000, Kd 2, CB 600, one
@@ -115,8 +115,8 @@ listedColumns = loadColumns listed 0 1 (zeros 1)
 
 -- loaded, started, and stepped with the row's figure
 unfoldable pub listedState : (steps : ℕ) → State
-listedState zero = startState 1 listedColumns (noState 1) 3000
-listedState (suc n) = stepState 1 (listedColumns .numbers) listedColumns (listedState n) (noWork 1) 3000 2
+listedState zero = startState 1 listedColumns (noState 1) (0 ∷ []) 3000
+listedState (suc n) = stepState 1 (listedColumns .numbers) listedColumns (listedState n) (0 ∷ []) (noWork 1) 3000 2
 
 -- what a line prints of a report
 abbrev pub figures : Outcome Reported → List ℕ

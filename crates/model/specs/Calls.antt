@@ -11,6 +11,7 @@ use Rattle.model.specs.Sweep.{downward, stepped}
 use Rattle.model.specs.State.{NumberSet, setLists, numbersAt, Columns, columnLists, segmentAt, segmentsOf, pairsOf, State, stateLists, figuresAt, figuresOf, writeFigures}
 use Rattle.model.specs.Refusals.{segment, Outcome, accepted, refused, Finding, test, testEach, outcomeOf}
 use Rattle.model.specs.Load.{sumFault}
+use Rattle.model.specs.Highest.{blocksFault, highestAfter}
 
 -- 13. "A lent list is shorter than the river .., or the river has no segment or over 1,024"
 unfoldable pub riverFault : (n : ℕ) → List (List ℕ) → Bool
@@ -53,17 +54,17 @@ pub record River : Type 0 where
 
 -- ---- "A start sets C, Z and W to the start figure, U to that of step 0 and the count to 0."
 
--- "a start .. 13 then 14"; u is "U at step 0"
-unfoldable pub startTests : (n : ℕ) → Columns → State → (u : ℕ) → List Finding
-startTests n columns state u =
-    test 13 (riverFault n (columnLists columns ++ stateLists state)) ∷
+-- "a start .. 13 then 14"; u is "U at step 0". It is also lent the highest figures, "which 14 skips".
+unfoldable pub startTests : (n : ℕ) → Columns → State → (highest : List ℕ) → (u : ℕ) → List Finding
+startTests n columns state highest u =
+    test 13 (riverFault n (columnLists columns ++ stateLists state) || blocksFault n highest) ∷
     testEach 14 segment n (startFault n columns) ∷
     test 14 (outside concentration u) ∷
     []
 
 -- the answer
-unfoldable pub startAnswer : (n : ℕ) → Columns → State → (u : ℕ) → Outcome River
-startAnswer n columns state u = outcomeOf (startTests n columns state u) (record { upstream = u; steps = 0 })
+unfoldable pub startAnswer : (n : ℕ) → Columns → State → (highest : List ℕ) → (u : ℕ) → Outcome River
+startAnswer n columns state highest u = outcomeOf (startTests n columns state highest u) (record { upstream = u; steps = 0 })
 
 -- "C, Z and W to the start figure"
 abbrev pub startFigures : Segment → Figures
@@ -75,8 +76,13 @@ stateAfterStart (accepted v) n columns state = writeFigures (map startFigures (s
 stateAfterStart (refused number place) n columns state = state
 
 -- the state afterwards
-unfoldable pub startState : (n : ℕ) → Columns → State → (u : ℕ) → State
-startState n columns state u = stateAfterStart (startAnswer n columns state u) n columns state
+unfoldable pub startState : (n : ℕ) → Columns → State → (highest : List ℕ) → (u : ℕ) → State
+startState n columns state highest u = stateAfterStart (startAnswer n columns state highest u) n columns state
+
+-- and the highest figures, those of the state that it leaves
+unfoldable pub startHighest : (n : ℕ) → Columns → State → (highest : List ℕ) → (u : ℕ) → List ℕ
+startHighest n columns state highest u =
+    highestAfter (startAnswer n columns state highest u) n (startState n columns state highest u .channel) highest
 
 -- ---- a step: "handed .. U' and M"; `old` is the set of its old side, `new` has that of its new side
 
@@ -86,18 +92,18 @@ pub record Working : Type 0 where
   pub y : List ℕ
 
 -- "a step 13 to 15"; "A step is lent both sets, and 14 looks at both"
-unfoldable pub stepTests : (n : ℕ) → (old : NumberSet) → (new : Columns) → State → Working → (u′ M : ℕ) → List Finding
-stepTests n old new state working u′ M =
-    test 13 (riverFault n (setLists old ++ columnLists new ++ stateLists state ++ working .p ∷ working .y ∷ [])) ∷
+unfoldable pub stepTests : (n : ℕ) → (old : NumberSet) → (new : Columns) → State → (highest : List ℕ) → Working → (u′ M : ℕ) → List Finding
+stepTests n old new state highest working u′ M =
+    test 13 (riverFault n (setLists old ++ columnLists new ++ stateLists state ++ working .p ∷ working .y ∷ []) || blocksFault n highest) ∷
     testEach 14 segment n (λ i. oldFault n old i || stateFault n new state i) ∷
     test 14 (heldFault state || outside concentration u′ || ltb mostSteps M) ∷
     test 15 (leb M (state .steps)) ∷
     []
 
 -- "After a step the state's U is that step's U'."
-unfoldable pub stepAnswer : (n : ℕ) → (old : NumberSet) → (new : Columns) → State → Working → (u′ M : ℕ) → Outcome River
-stepAnswer n old new state working u′ M =
-    outcomeOf (stepTests n old new state working u′ M) (record { upstream = u′; steps = suc (state .steps) })
+unfoldable pub stepAnswer : (n : ℕ) → (old : NumberSet) → (new : Columns) → State → (highest : List ℕ) → Working → (u′ M : ℕ) → Outcome River
+stepAnswer n old new state highest working u′ M =
+    outcomeOf (stepTests n old new state highest working u′ M) (record { upstream = u′; steps = suc (state .steps) })
 
 -- what a step with this answer leaves
 abbrev pub stateAfterStep : Outcome River → (n : ℕ) → (old : NumberSet) → (new : Columns) → State → State
@@ -106,8 +112,13 @@ stateAfterStep (accepted v) n old new state =
 stateAfterStep (refused number place) n old new state = state
 
 -- the state afterwards
-unfoldable pub stepState : (n : ℕ) → (old : NumberSet) → (new : Columns) → State → Working → (u′ M : ℕ) → State
-stepState n old new state working u′ M = stateAfterStep (stepAnswer n old new state working u′ M) n old new state
+unfoldable pub stepState : (n : ℕ) → (old : NumberSet) → (new : Columns) → State → (highest : List ℕ) → Working → (u′ M : ℕ) → State
+stepState n old new state highest working u′ M = stateAfterStep (stepAnswer n old new state highest working u′ M) n old new state
+
+-- and the highest figures
+unfoldable pub stepHighest : (n : ℕ) → (old : NumberSet) → (new : Columns) → State → (highest : List ℕ) → Working → (u′ M : ℕ) → List ℕ
+stepHighest n old new state highest working u′ M =
+    highestAfter (stepAnswer n old new state highest working u′ M) n (stepState n old new state highest working u′ M .channel) highest
 
 -- the working lists afterwards: p and y of the downward pass over their first entries
 abbrev pub workingAfterStep : Outcome River → (n : ℕ) → (old : NumberSet) → (new : Columns) → State → Working → Working
@@ -117,8 +128,9 @@ workingAfterStep (accepted v) n old new state working =
 workingAfterStep (refused number place) n old new state working = working
 
 -- and with its own answer
-unfoldable pub stepWorking : (n : ℕ) → (old : NumberSet) → (new : Columns) → State → Working → (u′ M : ℕ) → Working
-stepWorking n old new state working u′ M = workingAfterStep (stepAnswer n old new state working u′ M) n old new state working
+unfoldable pub stepWorking : (n : ℕ) → (old : NumberSet) → (new : Columns) → State → (highest : List ℕ) → Working → (u′ M : ℕ) → Working
+stepWorking n old new state highest working u′ M =
+    workingAfterStep (stepAnswer n old new state highest working u′ M) n old new state working
 
 -- ---- a report: "a segment, for which it gives C, Z and Kd × W"; segments count from 1
 

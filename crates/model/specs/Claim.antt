@@ -68,8 +68,8 @@ abbrev pub Demand3 : Type 0
 Demand3 =
     (sheet : List ℕ) (r : ℕ) (records : List Reach) (columns : Columns) (v : Loaded) →
     loadAnswer sheet r (length records) columns ≡ accepted v →
-    (before : State) (lent : Lent) (u : ℕ) (calls : List Call) → T (accepts before (start lent u)) →
-    Fed sheet before (start lent u ∷ calls) → Holds sheet before (start lent u ∷ calls)
+    (before : State) (lent : Lent) (highest : List ℕ) (u : ℕ) (calls : List Call) → T (accepts before (start lent highest u)) →
+    Fed sheet before (start lent highest u ∷ calls) → Holds sheet before (start lent highest u ∷ calls)
 
 -- what a loading leaves for flow r, in lists of n segments: what an accepted call is to be lent, and, as `lists` implies, an old set
 pub record LeftFor (sheet : List ℕ) (r n : ℕ) (columns : Columns) : Type 0 where

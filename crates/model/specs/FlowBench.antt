@@ -110,7 +110,7 @@ someState = record {
 
 -- what a step with this old set answers
 unfoldable pub steppingFrom : NumberSet → List ℕ
-steppingFrom old = refusedAt (stepAnswer 2 old newColumns someState (noWork 2) 1500000 1)
+steppingFrom old = refusedAt (stepAnswer 2 old newColumns someState (0 ∷ []) (noWork 2) 1500000 1)
 
 -- the table
 unfoldable pub flowBench : List Line
@@ -145,11 +145,11 @@ flowBench =
     record { number = 20; given = steppingFrom (oldSetWith (100000000 ∷ [])); printed = 13 ∷ 0 ∷ [] } ∷
     record { number = 21; given = steppingFrom (oldSetWith (100000000 ∷ 1000000000 ∷ [])); printed = 14 ∷ 2 ∷ [] } ∷
     -- the step: C', Z', W', p and y
-    record { number = 22; given = stepState 2 oldSet newColumns someState (noWork 2) 1500000 1 .channel; printed = 1454210 ∷ 1568422 ∷ [] } ∷
-    record { number = 23; given = stepState 2 oldSet newColumns someState (noWork 2) 1500000 1 .storage; printed = 2459965 ∷ 737443 ∷ [] } ∷
-    record { number = 24; given = stepState 2 oldSet newColumns someState (noWork 2) 1500000 1 .sediment; printed = 840935 ∷ 1161708 ∷ [] } ∷
-    record { number = 25; given = stepWorking 2 oldSet newColumns someState (noWork 2) 1500000 1 .p; printed = 16346061 ∷ 0 ∷ [] } ∷
-    record { number = 26; given = stepWorking 2 oldSet newColumns someState (noWork 2) 1500000 1 .y; printed = 1430333 ∷ 1568422 ∷ [] } ∷
+    record { number = 22; given = stepState 2 oldSet newColumns someState (0 ∷ []) (noWork 2) 1500000 1 .channel; printed = 1454210 ∷ 1568422 ∷ [] } ∷
+    record { number = 23; given = stepState 2 oldSet newColumns someState (0 ∷ []) (noWork 2) 1500000 1 .storage; printed = 2459965 ∷ 737443 ∷ [] } ∷
+    record { number = 24; given = stepState 2 oldSet newColumns someState (0 ∷ []) (noWork 2) 1500000 1 .sediment; printed = 840935 ∷ 1161708 ∷ [] } ∷
+    record { number = 25; given = stepWorking 2 oldSet newColumns someState (0 ∷ []) (noWork 2) 1500000 1 .p; printed = 16346061 ∷ 0 ∷ [] } ∷
+    record { number = 26; given = stepWorking 2 oldSet newColumns someState (0 ∷ []) (noWork 2) 1500000 1 .y; printed = 1430333 ∷ 1568422 ∷ [] } ∷
     []
 
 -- A step of the exact river worked out by hand, of one segment whose numbers differ on the two sides, in sixty-fourths of one whole

@@ -2,6 +2,7 @@
 -- lists and the table of the rivers are a pool; a river works on its stretch of the shared lists.
 use mathlib.Core.Bool.{Bool, not, cond, _&&_, _||_}
 use mathlib.Core.List.{List, [], _∷_, _++_, map}
+use mathlib.Core.Option.{Option}
 use Prim.Native.Nat.{ℕ, zero, suc, _+_, _-_, min, max}
 use lib.Dec.{eqb, ltb, leb}
 use lib.ListN.{length, getD, set}
@@ -11,6 +12,8 @@ use Rattle.model.specs.Sheet.{Reach, segmentCount}
 use Rattle.model.specs.State.{NumberSet, Columns, State, loadedSegments}
 use Rattle.model.specs.Refusals.{Outcome, accepted, refused, Finding, passes, fails, test, outcomeOf}
 use Rattle.model.specs.Load.{riverTests, listTests, Loaded, loaded, columnsAfter, recordsAfter}
+use Rattle.model.specs.Highest.{blocksFault, highestAfter}
+use Rattle.model.specs.Search.{searchTests, Searches}
 use Rattle.model.specs.Calls.{River, Working, Reported, startTests, startState, startFigures, stepTests, stepState, workingAfterStep, reportTests, reported}
 
 -- ---- the table and the pool
@@ -128,39 +131,52 @@ poolAfter (refused refusal place) pool number state = pool
 
 -- ---- a start: document 01's on the river's stretch
 
-unfoldable pub poolStartTests : Pool → (number : ℕ) → Columns → (u : ℕ) → List Finding
-poolStartTests pool number columns u =
-    poolTests pool number ++ startTests (slotOf (pool .table) number .segments) columns (stateOf pool number) u
+unfoldable pub poolStartTests : Pool → (number : ℕ) → Columns → (highest : List ℕ) → (u : ℕ) → List Finding
+poolStartTests pool number columns highest u =
+    poolTests pool number ++ startTests (slotOf (pool .table) number .segments) columns (stateOf pool number) highest u
 
-unfoldable pub poolStartAnswer : Pool → (number : ℕ) → Columns → (u : ℕ) → Outcome River
-poolStartAnswer pool number columns u = outcomeOf (poolStartTests pool number columns u) (record { upstream = u; steps = 0 })
+unfoldable pub poolStartAnswer : Pool → (number : ℕ) → Columns → (highest : List ℕ) → (u : ℕ) → Outcome River
+poolStartAnswer pool number columns highest u =
+    outcomeOf (poolStartTests pool number columns highest u) (record { upstream = u; steps = 0 })
 
 -- the pool afterwards
-unfoldable pub poolStart : Pool → (number : ℕ) → Columns → (u : ℕ) → Pool
-poolStart pool number columns u =
-    poolAfter (poolStartAnswer pool number columns u) pool number
-    (startState (slotOf (pool .table) number .segments) columns (stateOf pool number) u)
+unfoldable pub poolStart : Pool → (number : ℕ) → Columns → (highest : List ℕ) → (u : ℕ) → Pool
+poolStart pool number columns highest u =
+    poolAfter (poolStartAnswer pool number columns highest u) pool number
+    (startState (slotOf (pool .table) number .segments) columns (stateOf pool number) highest u)
+
+-- and the highest figures, a list of the river's own whose blocks count from its own first segment
+unfoldable pub poolStartHighest : Pool → (number : ℕ) → Columns → (highest : List ℕ) → (u : ℕ) → List ℕ
+poolStartHighest pool number columns highest u =
+    let n = slotOf (pool .table) number .segments in
+    highestAfter (poolStartAnswer pool number columns highest u) n (startState n columns (stateOf pool number) highest u .channel) highest
 
 -- ---- a step: the same
 
-unfoldable pub poolStepTests : Pool → (number : ℕ) → (old : NumberSet) → (new : Columns) → Working → (u′ M : ℕ) → List Finding
-poolStepTests pool number old new working u′ M =
-    poolTests pool number ++ stepTests (slotOf (pool .table) number .segments) old new (stateOf pool number) working u′ M
+unfoldable pub poolStepTests : Pool → (number : ℕ) → (old : NumberSet) → (new : Columns) → (highest : List ℕ) → Working → (u′ M : ℕ) → List Finding
+poolStepTests pool number old new highest working u′ M =
+    poolTests pool number ++ stepTests (slotOf (pool .table) number .segments) old new (stateOf pool number) highest working u′ M
 
-unfoldable pub poolStepAnswer : Pool → (number : ℕ) → (old : NumberSet) → (new : Columns) → Working → (u′ M : ℕ) → Outcome River
-poolStepAnswer pool number old new working u′ M =
-    outcomeOf (poolStepTests pool number old new working u′ M) (record { upstream = u′; steps = suc (stateOf pool number .steps) })
+unfoldable pub poolStepAnswer : Pool → (number : ℕ) → (old : NumberSet) → (new : Columns) → (highest : List ℕ) → Working → (u′ M : ℕ) → Outcome River
+poolStepAnswer pool number old new highest working u′ M =
+    outcomeOf (poolStepTests pool number old new highest working u′ M) (record { upstream = u′; steps = suc (stateOf pool number .steps) })
 
 -- the pool afterwards
-unfoldable pub poolStep : Pool → (number : ℕ) → (old : NumberSet) → (new : Columns) → Working → (u′ M : ℕ) → Pool
-poolStep pool number old new working u′ M =
-    poolAfter (poolStepAnswer pool number old new working u′ M) pool number
-    (stepState (slotOf (pool .table) number .segments) old new (stateOf pool number) working u′ M)
+unfoldable pub poolStep : Pool → (number : ℕ) → (old : NumberSet) → (new : Columns) → (highest : List ℕ) → Working → (u′ M : ℕ) → Pool
+poolStep pool number old new highest working u′ M =
+    poolAfter (poolStepAnswer pool number old new highest working u′ M) pool number
+    (stepState (slotOf (pool .table) number .segments) old new (stateOf pool number) highest working u′ M)
+
+-- the highest figures
+unfoldable pub poolStepHighest : Pool → (number : ℕ) → (old : NumberSet) → (new : Columns) → (highest : List ℕ) → Working → (u′ M : ℕ) → List ℕ
+poolStepHighest pool number old new highest working u′ M =
+    let n = slotOf (pool .table) number .segments in
+    highestAfter (poolStepAnswer pool number old new highest working u′ M) n (stepState n old new (stateOf pool number) highest working u′ M .channel) highest
 
 -- and the working lists
-unfoldable pub poolStepWorking : Pool → (number : ℕ) → (old : NumberSet) → (new : Columns) → Working → (u′ M : ℕ) → Working
-poolStepWorking pool number old new working u′ M =
-    workingAfterStep (poolStepAnswer pool number old new working u′ M) (slotOf (pool .table) number .segments) old new (stateOf pool number) working
+unfoldable pub poolStepWorking : Pool → (number : ℕ) → (old : NumberSet) → (new : Columns) → (highest : List ℕ) → Working → (u′ M : ℕ) → Working
+poolStepWorking pool number old new highest working u′ M =
+    workingAfterStep (poolStepAnswer pool number old new highest working u′ M) (slotOf (pool .table) number .segments) old new (stateOf pool number) working
 
 -- ---- a report: the same; nothing is written
 
@@ -171,6 +187,21 @@ poolReportTests pool number columns segment =
 unfoldable pub poolReportAnswer : Pool → (number : ℕ) → Columns → (segment : ℕ) → Outcome Reported
 poolReportAnswer pool number columns segment =
     outcomeOf (poolReportTests pool number columns segment) (reported columns (stateOf pool number) (segment - 1))
+
+-- ---- a search: the same on the river's stretch of the channel list, the one shared list that it is lent
+
+-- "in the hut 18 before it"
+unfoldable pub poolSearchTests : (table : List Slot) → (channel : List ℕ) → (number : ℕ) → (highest : List ℕ) → List Finding
+poolSearchTests table channel number highest =
+    let x = slotOf table number in
+    test 18 (numberFault table number) ∷ test 13 (anyShorter mostSegments (channel ∷ []))
+    ∷ searchTests (x .segments) (stretch (x .first) (x .segments) channel) highest
+
+-- an answer of it
+abbrev pub PoolSearchAnswer : (table : List Slot) → (channel : List ℕ) → (number : ℕ) → (highest : List ℕ) → (limit : ℕ) → Outcome (Option ℕ) → Type 0
+PoolSearchAnswer table channel number highest limit answer =
+    let x = slotOf table number in
+    Searches (poolSearchTests table channel number highest) (x .segments) (stretch (x .first) (x .segments) channel) highest limit answer
 
 -- ---- a closing: "a closing 18 alone"; it is lent the table and no list
 
@@ -193,28 +224,35 @@ closedTable table number = tableAfterClose (closeFinding table number) table num
 
 -- ---- an opening: "whoever opens one gives it a number from 1 to 8 and has it loaded and started in one call"
 
--- 1 to 12 as in a loading, 17 "after 12", 18 "an opening tests only the table", 13 as in a loading and of the shared lists, and 14 of "U at
--- step 0": of what a start's 14 looks at in the lists just loaded, the sums have passed 12, Kd and the concentrations 6, and the last g is 0
-unfoldable pub openTests : List ℕ → (r records : ℕ) → Columns → Pool → (number u : ℕ) → List Finding
-openTests sheet r records columns pool number u =
+-- 1 to 12 as in a loading, 17 "after 12", 18 "an opening tests only the table", 13 as in a loading, of the shared lists and, since it starts
+-- the river, of the highest figures, and 14 of "U at step 0": of what a start's 14 looks at in the lists just loaded, the sums have passed 12,
+-- Kd and the concentrations 6, and the last g is 0
+unfoldable pub openTests : List ℕ → (r records : ℕ) → Columns → Pool → (number : ℕ) → (highest : List ℕ) → (u : ℕ) → List Finding
+openTests sheet r records columns pool number highest u =
     riverTests sheet ++
     (test 17 (roomFault (pool .table) number (segmentCount sheet)) ∷ test 18 (tableFault (pool .table)) ∷ []) ++
     listTests sheet r records columns ++
-    (test 13 (sharedFault pool) ∷ test 14 (outside concentration u) ∷ [])
+    (test 13 (sharedFault pool || blocksFault (segmentCount sheet) highest) ∷ test 14 (outside concentration u) ∷ [])
 
 -- the answer is a loading's
-unfoldable pub openAnswer : List ℕ → (r records : ℕ) → Columns → Pool → (number u : ℕ) → Outcome Loaded
-openAnswer sheet r records columns pool number u = outcomeOf (openTests sheet r records columns pool number u) (loaded sheet)
+unfoldable pub openAnswer : List ℕ → (r records : ℕ) → Columns → Pool → (number : ℕ) → (highest : List ℕ) → (u : ℕ) → Outcome Loaded
+openAnswer sheet r records columns pool number highest u = outcomeOf (openTests sheet r records columns pool number highest u) (loaded sheet)
 
 -- the fourteen lists afterwards, as after a loading with this answer
-unfoldable pub openColumns : List ℕ → (r records : ℕ) → Columns → Pool → (number u : ℕ) → Columns
-openColumns sheet r records columns pool number u =
-    columnsAfter (openAnswer sheet r records columns pool number u) sheet r columns
+unfoldable pub openColumns : List ℕ → (r records : ℕ) → Columns → Pool → (number : ℕ) → (highest : List ℕ) → (u : ℕ) → Columns
+openColumns sheet r records columns pool number highest u =
+    columnsAfter (openAnswer sheet r records columns pool number highest u) sheet r columns
 
 -- and the list of reach records
-unfoldable pub openRecords : List ℕ → (r : ℕ) → List Reach → Columns → Pool → (number u : ℕ) → List Reach
-openRecords sheet r before columns pool number u =
-    recordsAfter (openAnswer sheet r (length before) columns pool number u) sheet before
+unfoldable pub openRecords : List ℕ → (r : ℕ) → List Reach → Columns → Pool → (number : ℕ) → (highest : List ℕ) → (u : ℕ) → List Reach
+openRecords sheet r before columns pool number highest u =
+    recordsAfter (openAnswer sheet r (length before) columns pool number highest u) sheet before
+
+-- and the highest figures: those of the start figures
+unfoldable pub openHighest : List ℕ → (r records : ℕ) → Columns → Pool → (number : ℕ) → (highest : List ℕ) → (u : ℕ) → List ℕ
+openHighest sheet r records columns pool number highest u =
+    highestAfter (openAnswer sheet r records columns pool number highest u) (segmentCount sheet)
+    (map (λ f. f .c) (map startFigures (loadedSegments sheet r))) highest
 
 -- "a closed river's segments are used again for any river that fits their number, wherever they lie": an accepted opening moves the open
 -- rivers' segments to the front, in their order, and the new river's stand behind them.
@@ -269,6 +307,6 @@ poolAfterOpen (accepted v) sheet r pool number u =
 poolAfterOpen (refused refusal place) sheet r pool number u = pool
 
 -- and after its own
-unfoldable pub poolOpen : List ℕ → (r records : ℕ) → Columns → Pool → (number u : ℕ) → Pool
-poolOpen sheet r records columns pool number u =
-    poolAfterOpen (openAnswer sheet r records columns pool number u) sheet r pool number u
+unfoldable pub poolOpen : List ℕ → (r records : ℕ) → Columns → Pool → (number : ℕ) → (highest : List ℕ) → (u : ℕ) → Pool
+poolOpen sheet r records columns pool number highest u =
+    poolAfterOpen (openAnswer sheet r records columns pool number highest u) sheet r pool number u

@@ -60,7 +60,7 @@ sheetWithStart dt segments =
 
 -- what an opening of that sheet, lent lists of n entries, answers
 unfoldable pub openingOf : (segments n : ℕ) → Pool → (number u : ℕ) → List ℕ
-openingOf segments n pool number u = refusedAt (openAnswer (sheetWithStart 100 segments) 0 1 (zeros n) pool number u)
+openingOf segments n pool number u = refusedAt (openAnswer (sheetWithStart 100 segments) 0 1 (zeros n) pool number (0 ∷ []) u)
 
 -- the pool that it leaves: three slots of the table, and the first entries of the channel list
 unfoldable pub leftBy : Pool → List ℕ
@@ -79,18 +79,18 @@ poolBench =
     -- packing: the segments 1 and 2 of river 3, then 6 to 8 of river 1, then the new river's
     record { number = 5; given = packed twoOpen (100 ∷ 101 ∷ []) (tab 10 12 (λ i. i)); printed = 11 ∷ 12 ∷ 16 ∷ 17 ∷ 18 ∷ 100 ∷ 101 ∷ 17 ∷ 18 ∷ 19 ∷ 20 ∷ 21 ∷ [] } ∷
     -- the order of the tests: 12 of the sheet before 17; 17 before 18 and 13; 18 before 13; 13 of the fourteen lists and of the shared ones before 14; 14
-    record { number = 6; given = refusedAt (openAnswer (sheetWithStart 3600 2) 0 1 (zeros 2) (poolWith twoOpen 1024) 9 0) ++ openingOf 2 0 (poolWith (tableOf (openAt 0 2) (openAt 1 1) vacant) 0) 1 0; printed = 12 ∷ 1 ∷ 17 ∷ 0 ∷ [] } ∷
+    record { number = 6; given = refusedAt (openAnswer (sheetWithStart 3600 2) 0 1 (zeros 2) (poolWith twoOpen 1024) 9 (0 ∷ []) 0) ++ openingOf 2 0 (poolWith (tableOf (openAt 0 2) (openAt 1 1) vacant) 0) 1 0; printed = 12 ∷ 1 ∷ 17 ∷ 0 ∷ [] } ∷
     record { number = 7; given = openingOf 2 0 (poolWith (tableOf (openAt 0 2) (openAt 1 1) vacant) 0) 3 0 ++ openingOf 2 1 (poolWith twoOpen 1024) 2 1000000001; printed = 18 ∷ 0 ∷ 13 ∷ 0 ∷ [] } ∷
     record { number = 8; given = openingOf 2 2 (poolWith twoOpen 1023) 2 1000000001 ++ openingOf 2 2 (poolWith twoOpen 1024) 2 1000000001; printed = 13 ∷ 0 ∷ 14 ∷ 0 ∷ [] } ∷
     record { number = 9; given = openingOf 2 2 (poolWith twoOpen 1024) 2 1000000000; printed = 0 ∷ 0 ∷ [] } ∷
     -- "a closed river's segments are used again": what the accepted opening leaves; and a refused one, which leaves all as it was
-    record { number = 10; given = leftBy (poolOpen (sheetWithStart 100 2) 0 1 (zeros 2) (poolWith twoOpen 1024) 2 9); printed = 1 ∷ 2 ∷ 3 ∷ 7 ∷ 3 ∷ 1 ∷ 5 ∷ 2 ∷ 9 ∷ 0 ∷ 1 ∷ 0 ∷ 2 ∷ 7 ∷ 3 ∷ 11 ∷ 12 ∷ 16 ∷ 17 ∷ 18 ∷ 500 ∷ 500 ∷ 17 ∷ 18 ∷ 19 ∷ [] } ∷
-    record { number = 11; given = leftBy (poolOpen (sheetWithStart 100 2) 0 1 (zeros 2) (poolWith twoOpen 1024) 2 1000000001); printed = 1 ∷ 6 ∷ 3 ∷ 7 ∷ 3 ∷ 0 ∷ 0 ∷ 12 ∷ 7 ∷ 3 ∷ 1 ∷ 1 ∷ 2 ∷ 7 ∷ 3 ∷ 10 ∷ 11 ∷ 12 ∷ 13 ∷ 14 ∷ 15 ∷ 16 ∷ 17 ∷ 18 ∷ 19 ∷ [] } ∷
+    record { number = 10; given = leftBy (poolOpen (sheetWithStart 100 2) 0 1 (zeros 2) (poolWith twoOpen 1024) 2 (0 ∷ []) 9); printed = 1 ∷ 2 ∷ 3 ∷ 7 ∷ 3 ∷ 1 ∷ 5 ∷ 2 ∷ 9 ∷ 0 ∷ 1 ∷ 0 ∷ 2 ∷ 7 ∷ 3 ∷ 11 ∷ 12 ∷ 16 ∷ 17 ∷ 18 ∷ 500 ∷ 500 ∷ 17 ∷ 18 ∷ 19 ∷ [] } ∷
+    record { number = 11; given = leftBy (poolOpen (sheetWithStart 100 2) 0 1 (zeros 2) (poolWith twoOpen 1024) 2 (0 ∷ []) 1000000001); printed = 1 ∷ 6 ∷ 3 ∷ 7 ∷ 3 ∷ 0 ∷ 0 ∷ 12 ∷ 7 ∷ 3 ∷ 1 ∷ 1 ∷ 2 ∷ 7 ∷ 3 ∷ 10 ∷ 11 ∷ 12 ∷ 13 ∷ 14 ∷ 15 ∷ 16 ∷ 17 ∷ 18 ∷ 19 ∷ [] } ∷
     -- a start of river 3 writes its own stretch and its slot, and nothing else; 18 of river 2, which is closed, before 13 of the shared lists
-    record { number = 12; given = leftBy (poolStart (poolWith twoOpen 1024) 3 (zeros 2) 8); printed = 1 ∷ 6 ∷ 3 ∷ 7 ∷ 3 ∷ 0 ∷ 0 ∷ 12 ∷ 7 ∷ 3 ∷ 1 ∷ 1 ∷ 2 ∷ 8 ∷ 0 ∷ 10 ∷ 0 ∷ 0 ∷ 13 ∷ 14 ∷ 15 ∷ 16 ∷ 17 ∷ 18 ∷ 19 ∷ [] } ∷
-    record { number = 13; given = refusedAt (poolStartAnswer (poolWith twoOpen 1023) 2 (zeros 2) 8) ++ refusedAt (poolStartAnswer (poolWith twoOpen 1023) 3 (zeros 2) 8); printed = 18 ∷ 0 ∷ 13 ∷ 0 ∷ [] } ∷
+    record { number = 12; given = leftBy (poolStart (poolWith twoOpen 1024) 3 (zeros 2) (0 ∷ []) 8); printed = 1 ∷ 6 ∷ 3 ∷ 7 ∷ 3 ∷ 0 ∷ 0 ∷ 12 ∷ 7 ∷ 3 ∷ 1 ∷ 1 ∷ 2 ∷ 8 ∷ 0 ∷ 10 ∷ 0 ∷ 0 ∷ 13 ∷ 14 ∷ 15 ∷ 16 ∷ 17 ∷ 18 ∷ 19 ∷ [] } ∷
+    record { number = 13; given = refusedAt (poolStartAnswer (poolWith twoOpen 1023) 2 (zeros 2) (0 ∷ []) 8) ++ refusedAt (poolStartAnswer (poolWith twoOpen 1023) 3 (zeros 2) (0 ∷ []) 8); printed = 18 ∷ 0 ∷ 13 ∷ 0 ∷ [] } ∷
     -- 18 of an open river where two others overlap, before all else; a mark that is not 1 is an open river's
-    record { number = 14; given = (let t = tableOf (openAt 0 10) (openAt 5 5) (openAt 20 2) in found (closeFinding t 3) ∷ refusedAt (poolStartAnswer (poolWith t 0) 3 (zeros 0) 1000000001)); printed = 18 ∷ 18 ∷ 0 ∷ [] } ∷
+    record { number = 14; given = (let t = tableOf (openAt 0 10) (openAt 5 5) (openAt 20 2) in found (closeFinding t 3) ∷ refusedAt (poolStartAnswer (poolWith t 0) 3 (zeros 0) [] 1000000001)); printed = 18 ∷ 18 ∷ 0 ∷ [] } ∷
     record { number = 15; given = (let t = tableOf (record { opened = 7; first = 0; segments = 2; upstream = 0; steps = 0 }) vacant vacant in found (closeFinding t 1) ∷ ground (roomFault t 1 1) ∷ ground (roomFault t 2 1023) ∷ []); printed = 0 ∷ 1 ∷ 1 ∷ [] } ∷
     -- a closing: the mark alone; of a river that is not open, and of numbers that none has, 18
     record { number = 16; given = threeIn (closedTable twoOpen 3); printed = 1 ∷ 6 ∷ 3 ∷ 7 ∷ 3 ∷ 0 ∷ 0 ∷ 12 ∷ 7 ∷ 3 ∷ 0 ∷ 1 ∷ 2 ∷ 7 ∷ 3 ∷ [] } ∷

@@ -11,11 +11,12 @@ use lib.ListN.{length}
 use Rattle.lists.specs.Lists.{tab}
 use Rattle.model.specs.Ranges.{mostRivers}
 use Rattle.model.specs.State.{NumberSet, Columns, State}
-use Rattle.model.specs.Refusals.{nothing, refused, passes, fails}
-use Rattle.model.specs.Calls.{Working, startAnswer, stepAnswer, stepWorking, reportAnswer}
+use Rattle.model.specs.Refusals.{nothing, Outcome, refused, passes, fails}
+use Rattle.model.specs.Calls.{Working, startAnswer, startHighest, stepAnswer, stepHighest, stepWorking, reportAnswer}
+use Rattle.model.specs.Search.{SearchAnswer}
 use Rattle.model.specs.Runs.{start, after, run, Fed}
 use Rattle.model.specs.Claim.{Holds}
-use Rattle.model.specs.Pool.{isOpen, vacant, slotAt, slotOf, Pool, stateOf, openAnswer, poolStartAnswer, poolStepAnswer, poolStepWorking, poolReportAnswer, closeFinding}
+use Rattle.model.specs.Pool.{isOpen, vacant, slotAt, slotOf, Pool, stateOf, openAnswer, poolStartAnswer, poolStartHighest, poolStepAnswer, poolStepHighest, poolStepWorking, poolReportAnswer, PoolSearchAnswer, closeFinding}
 use Rattle.model.specs.PoolRuns.{PoolCall, runPool, Own, ownCalls, ownSince}
 
 -- "Begun with none open": a table of eight slots, none of them open, and lists of any length and content
@@ -38,33 +39,43 @@ vacated pool =
 -- with no river open; 18, which looks at the table, does not come up in such a list
 abbrev pub OpensAlone : Pool → (number : ℕ) → Type 0
 OpensAlone pool number =
-    (sheet : List ℕ) (r records : ℕ) (columns : Columns) (u : ℕ) →
-    (openAnswer sheet r records columns pool number u ≡ refused 17 nothing)
-    ⊎ (openAnswer sheet r records columns pool number u ≡ openAnswer sheet r records columns (vacated pool) number u)
+    (sheet : List ℕ) (r records : ℕ) (columns : Columns) (highest : List ℕ) (u : ℕ) →
+    (openAnswer sheet r records columns pool number highest u ≡ refused 17 nothing)
+    ⊎ (openAnswer sheet r records columns pool number highest u ≡ openAnswer sheet r records columns (vacated pool) number highest u)
 
 -- a river that is not open: its other calls are refused with 18
 pub record NotOpen (pool : Pool) (number : ℕ) : Type 0 where
   pub closed : 1 ≤ number → number ≤ mostRivers → isOpen (slotOf (pool .table) number) ≡ false
-  pub starts : (columns : Columns) (u : ℕ) → poolStartAnswer pool number columns u ≡ refused 18 nothing
-  pub steps : (old : NumberSet) (new : Columns) (working : Working) (u′ M : ℕ) →
-      poolStepAnswer pool number old new working u′ M ≡ refused 18 nothing
+  pub starts : (columns : Columns) (highest : List ℕ) (u : ℕ) → poolStartAnswer pool number columns highest u ≡ refused 18 nothing
+  pub steps : (old : NumberSet) (new : Columns) (highest : List ℕ) (working : Working) (u′ M : ℕ) →
+      poolStepAnswer pool number old new highest working u′ M ≡ refused 18 nothing
   pub reports : (columns : Columns) (segment : ℕ) → poolReportAnswer pool number columns segment ≡ refused 18 nothing
+  pub searches : (highest : List ℕ) (limit : ℕ) (answer : Outcome (Option ℕ)) →
+      PoolSearchAnswer (pool .table) (pool .channel) number highest limit answer → answer ≡ refused 18 nothing
   pub closes : closeFinding (pool .table) number ≡ fails 18 nothing
 
 -- an open river with these own calls, beside the same calls made alone, from lists of any content
 pub record AsAlone (pool : Pool) (number : ℕ) (own : Own) (before : State) : Type 0 where
   -- "an open river shows the figures its accepted calls alone would give", with U and the count of steps done
   pub figures : stateOf pool number ≡ run before (ownCalls own)
-  -- its calls get the answers that they would get alone, and a step leaves its working lists as it would
-  pub starts : (columns : Columns) (u : ℕ) → poolStartAnswer pool number columns u ≡ startAnswer (own .lent .count) columns (run before (ownCalls own)) u
-  pub steps : (old : NumberSet) (new : Columns) (working : Working) (u′ M : ℕ) →
-      poolStepAnswer pool number old new working u′ M ≡ stepAnswer (own .lent .count) old new (run before (ownCalls own)) working u′ M
-  pub works : (old : NumberSet) (new : Columns) (working : Working) (u′ M : ℕ) →
-      poolStepWorking pool number old new working u′ M ≡ stepWorking (own .lent .count) old new (run before (ownCalls own)) working u′ M
+  -- its calls get the answers that they would get alone, and leave the highest figures and a step's working lists as they would
+  pub starts : (columns : Columns) (highest : List ℕ) (u : ℕ) →
+      poolStartAnswer pool number columns highest u ≡ startAnswer (own .lent .count) columns (run before (ownCalls own)) highest u
+  pub startsHighest : (columns : Columns) (highest : List ℕ) (u : ℕ) →
+      poolStartHighest pool number columns highest u ≡ startHighest (own .lent .count) columns (run before (ownCalls own)) highest u
+  pub steps : (old : NumberSet) (new : Columns) (highest : List ℕ) (working : Working) (u′ M : ℕ) →
+      poolStepAnswer pool number old new highest working u′ M ≡ stepAnswer (own .lent .count) old new (run before (ownCalls own)) highest working u′ M
+  pub stepsHighest : (old : NumberSet) (new : Columns) (highest : List ℕ) (working : Working) (u′ M : ℕ) →
+      poolStepHighest pool number old new highest working u′ M ≡ stepHighest (own .lent .count) old new (run before (ownCalls own)) highest working u′ M
+  pub works : (old : NumberSet) (new : Columns) (highest : List ℕ) (working : Working) (u′ M : ℕ) →
+      poolStepWorking pool number old new highest working u′ M ≡ stepWorking (own .lent .count) old new (run before (ownCalls own)) highest working u′ M
   pub reports : (columns : Columns) (segment : ℕ) →
       poolReportAnswer pool number columns segment ≡ reportAnswer (own .lent .count) columns (run before (ownCalls own)) segment
+  -- a search may give no other answer than alone
+  pub searches : (highest : List ℕ) (limit : ℕ) (answer : Outcome (Option ℕ)) → PoolSearchAnswer (pool .table) (pool .channel) number highest limit answer →
+      SearchAnswer (own .lent .count) (run before (ownCalls own) .channel) highest limit answer
   -- "demand 3 holds of each for its own calls", where each accepted call since the opening is lent what a loading of the sheet gives for it
-  pub demand3 : Fed (own .sheet) (after before (start (own .lent) (own .u))) (own .since) → Holds (own .sheet) before (ownCalls own)
+  pub demand3 : Fed (own .sheet) (after before (start (own .lent) (own .highest) (own .u))) (own .since) → Holds (own .sheet) before (ownCalls own)
 
 -- an open river
 pub record Opened (pool : Pool) (number : ℕ) (own : Own) : Type 0 where

@@ -9,37 +9,37 @@ use Rattle.model.specs.State.{NumberSet, Columns, loadedSegments, writeS
 use Rattle.model.specs.Refusals.{isAccepted, isPassed}
 use Rattle.model.specs.Calls.{Working}
 use Rattle.model.specs.Runs.{Lent, Call, start, step, report}
-use Rattle.model.specs.Pool.{Pool, slotOf, openAnswer, poolOpen, poolStartAnswer, poolStart, poolStepAnswer, poolStep, poolReportAnswer, closeFinding, closedTable}
+use Rattle.model.specs.Pool.{Pool, slotOf, openAnswer, poolOpen, openHighest, poolStartAnswer, poolStart, poolStartHighest, poolStepAnswer, poolStep, poolStepHighest, poolReportAnswer, closeFinding, closedTable}
 
 -- a call names a river by its number; what it is lent beside the pool is its own, of any content
 pub data PoolCall : Type 0 where
-  opening : (number : ℕ) → (sheet : List ℕ) → (r records : ℕ) → Columns → (u : ℕ) → PoolCall
-  starting : (number : ℕ) → Columns → (u : ℕ) → PoolCall
-  stepping : (number : ℕ) → (old : NumberSet) → (new : Columns) → Working → (u′ M : ℕ) → PoolCall
+  opening : (number : ℕ) → (sheet : List ℕ) → (r records : ℕ) → Columns → (highest : List ℕ) → (u : ℕ) → PoolCall
+  starting : (number : ℕ) → Columns → (highest : List ℕ) → (u : ℕ) → PoolCall
+  stepping : (number : ℕ) → (old : NumberSet) → (new : Columns) → (highest : List ℕ) → Working → (u′ M : ℕ) → PoolCall
   reporting : (number : ℕ) → Columns → (segment : ℕ) → PoolCall
   closing : (number : ℕ) → PoolCall
 
 -- the number
 abbrev pub named : PoolCall → ℕ
-named (opening number sheet r records columns u) = number
-named (starting number columns u) = number
-named (stepping number old new working u′ M) = number
+named (opening number sheet r records columns highest u) = number
+named (starting number columns highest u) = number
+named (stepping number old new highest working u′ M) = number
 named (reporting number columns segment) = number
 named (closing number) = number
 
 -- the call is accepted
 unfoldable pub poolAccepts : Pool → PoolCall → Bool
-poolAccepts pool (opening number sheet r records columns u) = isAccepted (openAnswer sheet r records columns pool number u)
-poolAccepts pool (starting number columns u) = isAccepted (poolStartAnswer pool number columns u)
-poolAccepts pool (stepping number old new working u′ M) = isAccepted (poolStepAnswer pool number old new working u′ M)
+poolAccepts pool (opening number sheet r records columns highest u) = isAccepted (openAnswer sheet r records columns pool number highest u)
+poolAccepts pool (starting number columns highest u) = isAccepted (poolStartAnswer pool number columns highest u)
+poolAccepts pool (stepping number old new highest working u′ M) = isAccepted (poolStepAnswer pool number old new highest working u′ M)
 poolAccepts pool (reporting number columns segment) = isAccepted (poolReportAnswer pool number columns segment)
 poolAccepts pool (closing number) = isPassed (closeFinding (pool .table) number)
 
 -- the pool that a call leaves
 unfoldable pub afterCall : Pool → PoolCall → Pool
-afterCall pool (opening number sheet r records columns u) = poolOpen sheet r records columns pool number u
-afterCall pool (starting number columns u) = poolStart pool number columns u
-afterCall pool (stepping number old new working u′ M) = poolStep pool number old new working u′ M
+afterCall pool (opening number sheet r records columns highest u) = poolOpen sheet r records columns pool number highest u
+afterCall pool (starting number columns highest u) = poolStart pool number columns highest u
+afterCall pool (stepping number old new highest working u′ M) = poolStep pool number old new highest working u′ M
 afterCall pool (reporting number columns segment) = pool
 afterCall pool (closing number) = record {
   table = closedTable (pool .table) number;
@@ -58,29 +58,31 @@ runPool pool (call ∷ calls) = runPool (afterCall pool call) calls
 pub record Own : Type 0 where
   pub sheet : List ℕ
   pub lent : Lent
+  pub highest : List ℕ
   pub u : ℕ
   pub since : List Call
 
 -- all of them
 abbrev pub ownCalls : Own → List Call
-ownCalls own = start (own .lent) (own .u) ∷ own .since
+ownCalls own = start (own .lent) (own .highest) (own .u) ∷ own .since
 
 -- with one more
 abbrev pub withCall : Call → Option Own → Option Own
 withCall call none = none
-withCall call (some own) = some (record { sheet = own .sheet; lent = own .lent; u = own .u; since = own .since ++ (call ∷ []) })
+withCall call (some own) = some (record { sheet = own .sheet; lent = own .lent; highest = own .highest; u = own .u; since = own .since ++ (call ∷ []) })
 
 -- what an accepted call that names the river makes of them; none where it is not open
 abbrev pub ownAfter : Pool → PoolCall → Option Own → Option Own
-ownAfter pool (opening number sheet r records columns u) own = some (record {
+ownAfter pool (opening number sheet r records columns highest u) own = some (record {
   sheet = sheet;
   lent = record { count = segmentCount sheet; columns = writeSegments (loadedSegments sheet r) columns };
+  highest = highest;
   u = u;
   since = [];
 })
-ownAfter pool (starting number columns u) own = withCall (start (record { count = slotOf (pool .table) number .segments; columns = columns }) u) own
-ownAfter pool (stepping number old new working u′ M) own =
-    withCall (step old (record { count = slotOf (pool .table) number .segments; columns = new }) working u′ M) own
+ownAfter pool (starting number columns highest u) own = withCall (start (record { count = slotOf (pool .table) number .segments; columns = columns }) highest u) own
+ownAfter pool (stepping number old new highest working u′ M) own =
+    withCall (step old (record { count = slotOf (pool .table) number .segments; columns = new }) highest working u′ M) own
 ownAfter pool (reporting number columns segment) own =
     withCall (report (record { count = slotOf (pool .table) number .segments; columns = columns }) segment) own
 ownAfter pool (closing number) own = none
@@ -91,3 +93,18 @@ ownSince number pool [] own = own
 ownSince number pool (call ∷ calls) own =
     ownSince number (afterCall pool call) calls
     (cond (eqb (named call) number && poolAccepts pool call) (ownAfter pool call own) own)
+
+-- the highest figures that an accepted call leaves its river; a report and a closing leave them as they were, which is `highest`
+abbrev pub highestLeft : Pool → PoolCall → (highest : List ℕ) → List ℕ
+highestLeft pool (opening number sheet r records columns lent u) highest = openHighest sheet r records columns pool number lent u
+highestLeft pool (starting number columns lent u) highest = poolStartHighest pool number columns lent u
+highestLeft pool (stepping number old new lent working u′ M) highest = poolStepHighest pool number old new lent working u′ M
+highestLeft pool (reporting number columns segment) highest = highest
+highestLeft pool (closing number) highest = highest
+
+-- those of the river with this number after a list of calls, of all rivers, from a pool: as its latest accepted opening, start or step left them
+unfoldable pub highestSince : (number : ℕ) → Pool → List PoolCall → (highest : List ℕ) → List ℕ
+highestSince number pool [] highest = highest
+highestSince number pool (call ∷ calls) highest =
+    highestSince number (afterCall pool call) calls
+    (cond (eqb (named call) number && poolAccepts pool call) (highestLeft pool call highest) highest)

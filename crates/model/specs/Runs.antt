@@ -20,22 +20,23 @@ pub record Lent : Type 0 where
   pub count : ℕ
   pub columns : Columns
 
--- "A start is also handed U at step 0; a step U' and M; a report a segment"; a step is also lent its old set and working lists
+-- "A start is also handed U at step 0; a step U' and M; a report a segment"; start and step are also lent highest figures, a step its old set
+-- and working lists
 pub data Call : Type 0 where
-  start : Lent → (u : ℕ) → Call
-  step : (old : NumberSet) → Lent → Working → (u′ M : ℕ) → Call
+  start : Lent → (highest : List ℕ) → (u : ℕ) → Call
+  step : (old : NumberSet) → Lent → (highest : List ℕ) → Working → (u′ M : ℕ) → Call
   report : Lent → (number : ℕ) → Call
 
 -- the call is accepted
 unfoldable pub accepts : State → Call → Bool
-accepts state (start lent u) = isAccepted (startAnswer (lent .count) (lent .columns) state u)
-accepts state (step old lent working u′ M) = isAccepted (stepAnswer (lent .count) old (lent .columns) state working u′ M)
+accepts state (start lent highest u) = isAccepted (startAnswer (lent .count) (lent .columns) state highest u)
+accepts state (step old lent highest working u′ M) = isAccepted (stepAnswer (lent .count) old (lent .columns) state highest working u′ M)
 accepts state (report lent number) = isAccepted (reportAnswer (lent .count) (lent .columns) state number)
 
 -- the state that a call leaves; "A report or a refused call leaves the state as it was."
 unfoldable pub after : State → Call → State
-after state (start lent u) = startState (lent .count) (lent .columns) state u
-after state (step old lent working u′ M) = stepState (lent .count) old (lent .columns) state working u′ M
+after state (start lent highest u) = startState (lent .count) (lent .columns) state highest u
+after state (step old lent highest working u′ M) = stepState (lent .count) old (lent .columns) state highest working u′ M
 after state (report lent number) = state
 
 -- "Every call is lent the state as the call before left it"
@@ -66,8 +67,8 @@ pub record PairAsLoaded (sheet : List ℕ) (n : ℕ) (old : NumberSet) (lent : L
 
 -- what a call of the run is lent in this state
 abbrev pub LentFrom : List ℕ → State → Call → Type 0
-LentFrom sheet state (start lent u) = AsLoaded sheet lent
-LentFrom sheet state (step old lent working u′ M) = PairAsLoaded sheet (state .steps) old lent
+LentFrom sheet state (start lent highest u) = AsLoaded sheet lent
+LentFrom sheet state (step old lent highest working u′ M) = PairAsLoaded sheet (state .steps) old lent
 LentFrom sheet state (report lent number) = AsLoaded sheet lent
 
 -- "every accepted one" is lent that; refused calls may be lent anything
@@ -86,8 +87,8 @@ pub data Event : Type 0 where
 -- the event of a call, by whether it was accepted
 abbrev pub event : Bool → Call → Event
 event false call = still
-event true (start lent u) = started u
-event true (step old lent working u′ M) = moved u′
+event true (start lent highest u) = started u
+event true (step old lent highest working u′ M) = moved u′
 event true (report lent number) = still
 
 -- those of a list of calls from a state

@@ -1,5 +1,5 @@
 -- What an opening is lent behind the list of reach records, and passes on as it stands: the fourteen lists of a loading, the three shared ones, the
--- table and U at step 0.
+-- highest figures, the table and U at step 0.
 use mathlib.Core.List.{List, [], _∷_}
 use Prim.Native.Nat.{ℕ, _<_, _^_}
 use mir.Syntax.{named, w32}
@@ -30,18 +30,24 @@ behind = record {
   same = (tt, (tt, tt));
 }
 
--- the fourteen lists and the pool, before and after, and U
-abbrev pub before : RefsTo behind 17 → Columns
+-- the fourteen lists, the pool and the highest figures, before and after, and U
+abbrev pub before : RefsTo behind 18 → Columns
 before z = fourteen now z
 
-abbrev pub after : ListsTo behind 17 → Columns
+abbrev pub after : ListsTo behind 18 → Columns
 after w = fourteen plain w
 
-abbrev pub pool-before : RefsTo behind 17 → Pool
-pool-before z = pool now (z .1 .1 .1 .1 .1 .1 .1 .1 .1 .1 .1 .1 .1 .1 .0) (z .1 .1 .1 .1 .1 .1 .1 .1 .1 .1 .1 .1 .1 .1 .1 .0) (z .1 .1 .1 .1 .1 .1 .1 .1 .1 .1 .1 .1 .1 .1 .1 .1 .0) (z .1 .1 .1 .1 .1 .1 .1 .1 .1 .1 .1 .1 .1 .1 .1 .1 .1 .0)
+abbrev pub pool-before : RefsTo behind 18 → Pool
+pool-before z = pool now (z .1 .1 .1 .1 .1 .1 .1 .1 .1 .1 .1 .1 .1 .1 .0) (z .1 .1 .1 .1 .1 .1 .1 .1 .1 .1 .1 .1 .1 .1 .1 .0) (z .1 .1 .1 .1 .1 .1 .1 .1 .1 .1 .1 .1 .1 .1 .1 .1 .0) (z .1 .1 .1 .1 .1 .1 .1 .1 .1 .1 .1 .1 .1 .1 .1 .1 .1 .1 .0)
 
-abbrev pub pool-after : ListsTo behind 17 → Pool
-pool-after w = pool plain (w .1 .1 .1 .1 .1 .1 .1 .1 .1 .1 .1 .1 .1 .1 .0) (w .1 .1 .1 .1 .1 .1 .1 .1 .1 .1 .1 .1 .1 .1 .1 .0) (w .1 .1 .1 .1 .1 .1 .1 .1 .1 .1 .1 .1 .1 .1 .1 .1 .0) (w .1 .1 .1 .1 .1 .1 .1 .1 .1 .1 .1 .1 .1 .1 .1 .1 .1 .0)
+abbrev pub pool-after : ListsTo behind 18 → Pool
+pool-after w = pool plain (w .1 .1 .1 .1 .1 .1 .1 .1 .1 .1 .1 .1 .1 .1 .0) (w .1 .1 .1 .1 .1 .1 .1 .1 .1 .1 .1 .1 .1 .1 .1 .0) (w .1 .1 .1 .1 .1 .1 .1 .1 .1 .1 .1 .1 .1 .1 .1 .1 .0) (w .1 .1 .1 .1 .1 .1 .1 .1 .1 .1 .1 .1 .1 .1 .1 .1 .1 .1 .0)
 
-abbrev pub figure : RefsTo behind 17 → ℕ
-figure z = z .1 .1 .1 .1 .1 .1 .1 .1 .1 .1 .1 .1 .1 .1 .1 .1 .1 .1 .0
+abbrev pub highest-before : RefsTo behind 18 → List ℕ
+highest-before z = now (z .1 .1 .1 .1 .1 .1 .1 .1 .1 .1 .1 .1 .1 .1 .1 .1 .1 .0)
+
+abbrev pub highest-after : ListsTo behind 18 → List ℕ
+highest-after w = w .1 .1 .1 .1 .1 .1 .1 .1 .1 .1 .1 .1 .1 .1 .1 .1 .1 .0
+
+abbrev pub figure : RefsTo behind 18 → ℕ
+figure z = z .1 .1 .1 .1 .1 .1 .1 .1 .1 .1 .1 .1 .1 .1 .1 .1 .1 .1 .1 .0

@@ -2,7 +2,7 @@
 ghost use mathlib.Core.Path.{_≡_};
 ghost use mathlib.Core.List.{map};
 ghost use lib.ListN.{length};
-ghost use Rattle.model.specs.Pool.{openAnswer, openColumns, openRecords, poolOpen};
+ghost use Rattle.model.specs.Pool.{openAnswer, openColumns, openRecords, poolOpen, openHighest};
 ghost use Rattle.terms.specs.Says.{reachSays};
 ghost use Rattle.lists.specs.Lent.{entry, exit};
 ghost use Rattle.terms.specs.Lent.{columns, pool};
@@ -36,17 +36,20 @@ pub fn open(
     channel: &mut [u32],
     storage: &mut [u32],
     sediment: &mut [u32],
+    highest: &mut [u32],
     table: &mut [u32; 40],
     u: u32,
 ) -> Load
     ensures answer { λ r. ⌜ loadSays r ≡ openAnswer (entry sheet) row (length (entry reaches))
-        (columns entry e g l a b k ks h m s cl cb kd start) (pool entry channel storage sediment table) river u ⌝ }
+        (columns entry e g l a b k ks h m s cl cb kd start) (pool entry channel storage sediment table) river (entry highest) u ⌝ }
     ensures lists { λ r. ⌜ columns exit e g l a b k ks h m s cl cb kd start ≡ openColumns (entry sheet) row (length (entry reaches))
-        (columns entry e g l a b k ks h m s cl cb kd start) (pool entry channel storage sediment table) river u ⌝ }
+        (columns entry e g l a b k ks h m s cl cb kd start) (pool entry channel storage sediment table) river (entry highest) u ⌝ }
     ensures pool { λ r. ⌜ pool exit channel storage sediment table ≡ poolOpen (entry sheet) row (length (entry reaches))
-        (columns entry e g l a b k ks h m s cl cb kd start) (pool entry channel storage sediment table) river u ⌝ }
+        (columns entry e g l a b k ks h m s cl cb kd start) (pool entry channel storage sediment table) river (entry highest) u ⌝ }
+    ensures highest { λ r. ⌜ exit highest ≡ openHighest (entry sheet) row (length (entry reaches))
+        (columns entry e g l a b k ks h m s cl cb kd start) (pool entry channel storage sediment table) river (entry highest) u ⌝ }
     ensures records { λ r. ⌜ map reachSays (exit reaches) ≡ openRecords (entry sheet) row (map reachSays (entry reaches))
-        (columns entry e g l a b k ks h m s cl cb kd start) (pool entry channel storage sediment table) river u ⌝ }
+        (columns entry e g l a b k ks h m s cl cb kd start) (pool entry channel storage sediment table) river (entry highest) u ⌝ }
 {
     let answer = pool::open_lists(
         river,
@@ -70,6 +73,7 @@ pub fn open(
         channel,
         storage,
         sediment,
+        highest,
         table,
         u,
     );

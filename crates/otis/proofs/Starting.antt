@@ -1,14 +1,20 @@
 -- A start's outcome, from what its tests find.
 use mathlib.Core.Path.{_≡_}
+use mathlib.Core.Bool.{_||_}
 use mathlib.Core.List.{List, map, _++_}
 use Prim.Native.Nat.{ℕ, _≤_}
 use lib.ListN.{length, getD}
 use Rattle.lists.specs.Lists.{tab, over}
+use native.Mathlib.Nat.{le-trans}
+use Rattle.lists.proofs.Over.{over-long}
 use Rattle.lists.proofs.Tab.{map-tab}
+use Rattle.lists.proofs.Shorter.{neither}
+use Rattle.model.specs.Ranges.{mostSegments}
 use Rattle.model.specs.Equations.{Figures}
 use Rattle.model.specs.State.{Columns, columnLists, segmentAt, segmentsOf, State, stateLists, writeFigures}
 use Rattle.model.specs.Refusals.{Place, passes, fails, first}
-use Rattle.model.specs.Calls.{riverFault, startTests, startAnswer, startFigures, startState}
+use Rattle.model.specs.Highest.{blockCount, highestOf, blocksFault}
+use Rattle.model.specs.Calls.{riverFault, startTests, startAnswer, startFigures, startState, startHighest}
 use Rattle.terms.specs.declared.Place as Code
 use Rattle.terms.specs.Says.{placeSays}
 use Rattle.otis.specs.declared.Start.the-variants.{Started, Refused}
@@ -16,32 +22,52 @@ use Rattle.lists.specs.Lent.{plain}
 use Rattle.terms.specs.Lent.{state, LongFigures}
 use Rattle.otis.specs.Outcomes.{StartOutcome}
 use Rattle.model.proofs.Refusals.{all-pass, test-clear}
-use Rattle.calltests.proofs.RiverLaws.{columns-long, figures-long}
+use Rattle.blocks.proofs.Fault.{blocks-long}
+use Rattle.calltests.proofs.RiverLaws.{counted, columns-long, figures-long}
 
-module _ (n : ℕ) (x : Columns) (before : State) (u : ℕ) where
-  -- the lists that it reads and writes have n entries
-  pub start-long : first (startTests n x before u) ≡ passes →
-      (n ≤ length (x .start)) × LongFigures n (before .channel) (before .storage) (before .sediment)
+module _ (n : ℕ) (x : Columns) (before : State) (lent : List ℕ) (u : ℕ) where
+  -- the lists that it reads and writes have n entries, and an entry for each block
+  pub record StartLong : Type 0 where
+    pub few : n ≤ mostSegments
+    pub start : n ≤ length (x .start)
+    pub figures : LongFigures n (before .channel) (before .storage) (before .sediment)
+    pub highest : blockCount n ≤ length lent
+
+  pub start-long : first (startTests n x before lent u) ≡ passes → StartLong
   unfolding startTests
   start-long e =
-      let sound = test-clear 13 (riverFault n (columnLists x ++ stateLists before)) (all-pass (startTests n x before u) e .0) in
-      (columns-long n x (stateLists before) sound .start, figures-long n x (before .channel) (before .storage) (before .sediment) sound)
+      let lists = columnLists x ++ stateLists before in
+      let both = neither (riverFault n lists) (blocksFault n lent) (test-clear 13 (riverFault n lists || blocksFault n lent) (all-pass (startTests n x before lent u) e .0)) in
+      record {
+        few = counted n lists (both .0) .1;
+        start = columns-long n x (stateLists before) (both .0) .start;
+        figures = figures-long n x (before .channel) (before .storage) (before .sediment) (both .0);
+        highest = blocks-long n lent (both .1);
+      }
+
+  -- and still have when the channel figures are written
+  pub start-filled : first (startTests n x before lent u) ≡ passes → (f : ℕ → ℕ) (c : List ℕ) → c ≡ over (tab 0 n f) (before .channel) →
+      (n ≤ mostSegments) × (n ≤ length c) × (blockCount n ≤ length lent)
+  start-filled e f c p =
+      let long = start-long e in
+      (long .few, rw p (le-trans (long .figures .channel) (over-long (tab 0 n f) (before .channel))), long .highest)
 
   -- the figure of each segment
   start-list : (f : Figures → ℕ) → map f (map startFigures (segmentsOf n x)) ≡ tab 0 n (λ i. f (startFigures (segmentAt x i)))
   start-list f = rw (map-tab startFigures (segmentAt x) 0 n) (map-tab f (λ i. startFigures (segmentAt x i)) 0 n)
 
-  pub start-accepted : (c z w : List ℕ) → first (startTests n x before u) ≡ passes →
+  pub start-accepted : (c z w left : List ℕ) → first (startTests n x before lent u) ≡ passes →
       c ≡ over (tab 0 n (λ i. getD (x .start) i 0)) (before .channel) → z ≡ over (tab 0 n (λ i. getD (x .start) i 0)) (before .storage) →
-      w ≡ over (tab 0 n (λ i. getD (x .start) i 0)) (before .sediment) →
-      StartOutcome n x before u (Started (record { upstream = u; steps = 0 })) (state plain c z w u 0)
-  unfolding startAnswer startState segmentAt writeFigures
-  start-accepted c z w e p q r = record {
+      w ≡ over (tab 0 n (λ i. getD (x .start) i 0)) (before .sediment) → left ≡ over (highestOf n c) lent →
+      StartOutcome n x before lent u (Started (record { upstream = u; steps = 0 })) (state plain c z w u 0) left
+  unfolding startAnswer startState startHighest segmentAt writeFigures
+  start-accepted c z w left e p q r t = record {
     answer = rw e;
     state = rw (e, p, q, r, start-list (λ f. f .c), start-list (λ f. f .z), start-list (λ f. f .w));
+    highest = rw (e, t, p, start-list (λ f. f .c));
   }
 
-  pub start-refused : (number : ℕ) (place : Code.Place) → first (startTests n x before u) ≡ fails number (placeSays place) →
-      StartOutcome n x before u (Refused number place) before
-  unfolding startAnswer startState
-  start-refused number place e = record { answer = rw e; state = rw e }
+  pub start-refused : (number : ℕ) (place : Code.Place) → first (startTests n x before lent u) ≡ fails number (placeSays place) →
+      StartOutcome n x before lent u (Refused number place) before lent
+  unfolding startAnswer startState startHighest
+  start-refused number place e = record { answer = rw e; state = rw e; highest = rw e }

@@ -1,14 +1,16 @@
 -- A step's outcome, from what its tests find.
 use mathlib.Core.Path.{_≡_, refl, sym, _∙_}
 use mathlib.Core.Bool.{Bool, true, false, cond, _||_, true≢false}
-use mathlib.Core.List.{List, [], _∷_, _++_}
+use mathlib.Core.List.{List, [], _∷_, _++_, map}
 use Prim.Native.Nat.{ℕ, _+_, _<_, _≤_}
+use native.Mathlib.Nat.{le-trans}
 use native.Mathlib.Numerals.{add-one}
 use native.Mathlib.Omega.{arith}
 use borrow.Author.Tests.{ltb-false, leb-false}
 use lib.Dec.{leb, ltb}
 use lib.ListN.{length, getD}
-use Rattle.lists.specs.Lists.{lowest, anyShorter}
+use Rattle.lists.specs.Lists.{over, lowest, anyShorter}
+use Rattle.lists.proofs.Over.{over-long}
 use Rattle.lists.proofs.Either.{lowest-either}
 use Rattle.lists.proofs.Lowest.{none-at-fault}
 use Rattle.lists.proofs.Shorter.{neither, all-long}
@@ -16,10 +18,12 @@ use Rattle.rounding.specs.Nearest.{S}
 use Rattle.model.specs.Ranges.{_to_, outside, concentration, highest, mostKd, mostSteps, mostSegments}
 use Rattle.model.specs.HalfStep.{Numbers}
 use Rattle.model.specs.Equations.{Figures, sumT, sumV}
-use Rattle.model.specs.State.{NumberSet, setLists, numbersAt, Columns, columnLists, segmentAt, pairAt, State, stateLists, figuresAt, writeFigures}
+use Rattle.model.specs.Sweep.{stepped}
+use Rattle.model.specs.State.{NumberSet, setLists, numbersAt, Columns, columnLists, segmentAt, pairAt, pairsOf, State, stateLists, figuresAt, figuresOf, writeFigures}
 use Rattle.model.specs.Refusals.{Finding, passes, fails, test, first}
 use Rattle.model.specs.Load.{sumFault}
-use Rattle.model.specs.Calls.{riverFault, numbersFault, segmentFault, figureFault, startFault, stateFault, oldFault, heldFault, Working, stepTests, stepAnswer, stepState, stepWorking}
+use Rattle.model.specs.Highest.{blockCount, highestOf, blocksFault}
+use Rattle.model.specs.Calls.{riverFault, numbersFault, segmentFault, figureFault, startFault, stateFault, oldFault, heldFault, Working, stepTests, stepAnswer, stepState, stepHighest, stepWorking}
 use Rattle.model.proofs.Ranges.{inside}
 use Rattle.model.proofs.Refusals.{AllPass, all-pass, test-clear}
 use Rattle.stability.specs.Accepted.{Sums, Accepted, AtMost}
@@ -28,6 +32,7 @@ use Rattle.terms.specs.Lent as Lent
 use Rattle.sweep.specs.Step as Sweep
 use Rattle.terms.specs.declared.Place as Code
 use Rattle.terms.specs.Says.{placeSays}
+use Rattle.blocks.proofs.Fault.{blocks-long}
 use Rattle.calltests.specs.Tests.{stateTests}
 use Rattle.calltests.proofs.RiverLaws.{shorter-both, counted, set-long, columns-long, figures-long}
 use Rattle.calltests.proofs.StateTests.{Sound, sound}
@@ -46,11 +51,12 @@ first-first (fails number place ∷ tests) finding = refl
 pub steps-left : (finding : Finding) (M done : ℕ) → first (finding ∷ test 15 (leb M done) ∷ []) ≡ passes → done < M
 steps-left finding M done e = leb-false M done (test-clear 15 (leb M done) (all-pass (finding ∷ test 15 (leb M done) ∷ []) e .1 .0))
 
--- the working lists and the old set
-pub others-short : (n : ℕ) (p y : List ℕ) (old : NumberSet) (fault rest set : Bool) → fault ≡ (ltb (length p) n || rest) → rest ≡ (ltb (length y) n || set) →
-    set ≡ anyShorter n (setLists old) → fault ≡ anyShorter n (p ∷ y ∷ setLists old)
-unfolding anyShorter
-others-short n p y old fault rest set e o q = e ∙ rw (o, q)
+-- the highest figures, the working lists and the old set
+pub others-short : (n : ℕ) (blocks : List ℕ) (p y : List ℕ) (old : NumberSet) (count : ℕ) (fault both rest set : Bool) → count ≡ blockCount n →
+    fault ≡ (ltb (length blocks) count || both) → both ≡ (ltb (length p) n || rest) → rest ≡ (ltb (length y) n || set) →
+    set ≡ anyShorter n (setLists old) → fault ≡ (blocksFault n blocks || anyShorter n (p ∷ y ∷ setLists old))
+unfolding anyShorter blocksFault
+others-short n blocks p y old count fault both rest set k e o q r = e ∙ rw (k, o, q, r)
 
 -- ---- what an accepted step knows of a segment
 
@@ -91,19 +97,24 @@ or-true : (b : Bool) → (b || true) ≡ true
 or-true true = refl
 or-true false = refl
 
-others-last : (range set river working : Bool) → (range || (set || (river || working))) ≡ (range || river || (working || set))
-others-last true set river working = refl
-others-last false true true working = refl
-others-last false true false working = sym (or-true working)
-others-last false false true working = refl
-others-last false false false true = refl
-others-last false false false false = refl
+others-last : (range set river working blocks : Bool) →
+    (range || (set || (river || working)) || blocks) ≡ (range || river || (blocks || (working || set)))
+others-last true set river working blocks = refl
+others-last false true true working blocks = refl
+others-last false true false working true = refl
+others-last false true false working false = sym (or-true working)
+others-last false false true working blocks = refl
+others-last false false false true true = refl
+others-last false false false true false = refl
+others-last false false false false true = refl
+others-last false false false false false = refl
 
-set-decides : (range set river working : Bool) → (range || set) ≡ true → (range || river || (working || set)) ≡ true
-set-decides true set river working e = refl
-set-decides false true true working e = refl
-set-decides false true false working e = or-true working
-set-decides false false river working e = absurd (true≢false (sym e))
+set-decides : (range set river working blocks : Bool) → (range || set) ≡ true → (range || river || (blocks || (working || set))) ≡ true
+set-decides true set river working blocks e = refl
+set-decides false true true working blocks e = refl
+set-decides false true false working true e = refl
+set-decides false true false working false e = or-true working
+set-decides false false river working blocks e = absurd (true≢false (sym e))
 
 -- what the sweep is lent of the new set's lists, and of the state
 abbrev without : Columns → Columns
@@ -114,38 +125,40 @@ without x =
 abbrev still : State → State
 still s = Lent.state plain (s .channel) (s .storage) (s .sediment) (s .upstream) 0
 
-module _ (n : ℕ) (old : NumberSet) (x : Columns) (state : State) (lent : Working) (u′ M : ℕ) (unfit : Bool) (is : unfit ≡ anyShorter n (lent .p ∷ lent .y ∷ setLists old))
+module _ (n : ℕ) (old : NumberSet) (x : Columns) (state : State) (blocks : List ℕ) (lent : Working) (u′ M : ℕ)
+    (unfit : Bool) (is : unfit ≡ (blocksFault n blocks || anyShorter n (lent .p ∷ lent .y ∷ setLists old)))
     (other : ℕ) (low : other ≡ cond (riverFault n (setLists old)) n (lowest n (oldFault n old)))
     (finding : Finding) (found : finding ≡ first (stateTests n x state unfit other u′ M)) where
-  behind : unfit ≡ (anyShorter n (lent .p ∷ lent .y ∷ []) || anyShorter n (setLists old))
-  behind = is ∙ shorter-both n (lent .p ∷ lent .y ∷ []) (setLists old)
+  behind : unfit ≡ (blocksFault n blocks || (anyShorter n (lent .p ∷ lent .y ∷ []) || anyShorter n (setLists old)))
+  behind = is ∙ rw (shorter-both n (lent .p ∷ lent .y ∷ []) (setLists old))
 
-  river-all : riverFault n (setLists old ++ columnLists x ++ stateLists state ++ lent .p ∷ lent .y ∷ []) ≡ (riverFault n (columnLists x ++ stateLists state) || unfit)
+  river-all : (riverFault n (setLists old ++ columnLists x ++ stateLists state ++ lent .p ∷ lent .y ∷ []) || blocksFault n blocks)
+      ≡ (riverFault n (columnLists x ++ stateLists state) || unfit)
   unfolding riverFault
   river-all =
       rw (shorter-both n (setLists old) (columnLists x ++ stateLists state ++ lent .p ∷ lent .y ∷ []), shorter-both n (columnLists x ++ stateLists state) (lent .p ∷ lent .y ∷ []), behind)
-      (others-last (outside (1 to mostSegments) n) (anyShorter n (setLists old)) (anyShorter n (columnLists x ++ stateLists state)) (anyShorter n (lent .p ∷ lent .y ∷ [])))
+      (others-last (outside (1 to mostSegments) n) (anyShorter n (setLists old)) (anyShorter n (columnLists x ++ stateLists state)) (anyShorter n (lent .p ∷ lent .y ∷ [])) (blocksFault n blocks))
 
   -- where 13 finds fault with the count or with a list of the old set, it says so, whatever 14 finds
   refused-13 : riverFault n (setLists old) ≡ true → (riverFault n (columnLists x ++ stateLists state) || unfit) ≡ true
   unfolding riverFault
   refused-13 e =
       rw behind
-      (set-decides (outside (1 to mostSegments) n) (anyShorter n (setLists old)) (anyShorter n (columnLists x ++ stateLists state)) (anyShorter n (lent .p ∷ lent .y ∷ [])) e)
+      (set-decides (outside (1 to mostSegments) n) (anyShorter n (setLists old)) (anyShorter n (columnLists x ++ stateLists state)) (anyShorter n (lent .p ∷ lent .y ∷ [])) (blocksFault n blocks) e)
 
   same-tests : (fault : Bool) → riverFault n (setLists old) ≡ fault →
-      first (stateTests n x state unfit other u′ M ++ (test 15 (leb M (state .steps)) ∷ [])) ≡ first (stepTests n old x state lent u′ M)
+      first (stateTests n x state unfit other u′ M ++ (test 15 (leb M (state .steps)) ∷ [])) ≡ first (stepTests n old x state blocks lent u′ M)
   unfolding stateTests stepTests
   same-tests true e = rw (river-all, refused-13 e)
   same-tests false e = rw (river-all, low, e, lowest-either (oldFault n old) (stateFault n x state) n)
 
-  step-tests : first (finding ∷ test 15 (leb M (state .steps)) ∷ []) ≡ first (stepTests n old x state lent u′ M)
+  step-tests : first (finding ∷ test 15 (leb M (state .steps)) ∷ []) ≡ first (stepTests n old x state blocks lent u′ M)
   step-tests = rw found (first-first (stateTests n x state unfit other u′ M) (test 15 (leb M (state .steps))) ∙ same-tests (riverFault n (setLists old)) refl)
 
   pub step-refused : (number : ℕ) (place : Code.Place) → first (finding ∷ test 15 (leb M (state .steps)) ∷ []) ≡ fails number (placeSays place) →
-      StepOutcome n old x state lent u′ M (Refused number place) state lent
-  unfolding stepAnswer stepState stepWorking
-  step-refused number place e = let e = sym step-tests ∙ e in record { answer = rw e; state = rw e; working = rw e }
+      StepOutcome n old x state blocks lent u′ M (Refused number place) state blocks lent
+  unfolding stepAnswer stepState stepHighest stepWorking
+  step-refused number place e = let e = sym step-tests ∙ e in record { answer = rw e; state = rw e; highest = rw e; working = rw e }
 
   module _ (e : first (finding ∷ test 15 (leb M (state .steps)) ∷ []) ≡ passes) where
     all : AllPass (finding ∷ test 15 (leb M (state .steps)) ∷ [])
@@ -154,8 +167,11 @@ module _ (n : ℕ) (old : NumberSet) (x : Columns) (state : State) (lent : Worki
     known : Sound n x state unfit other u′ M
     known = sound n x state unfit other u′ M (sym found ∙ all .0)
 
+    fit : (blocksFault n blocks ≡ false) × ((anyShorter n (lent .p ∷ lent .y ∷ []) || anyShorter n (setLists old)) ≡ false)
+    fit = neither (blocksFault n blocks) _ (sym behind ∙ known .fit)
+
     others : (anyShorter n (lent .p ∷ lent .y ∷ []) ≡ false) × (anyShorter n (setLists old) ≡ false)
-    others = neither (anyShorter n (lent .p ∷ lent .y ∷ [])) (anyShorter n (setLists old)) (sym behind ∙ known .fit)
+    others = neither (anyShorter n (lent .p ∷ lent .y ∷ [])) (anyShorter n (setLists old)) (fit .1)
 
     set-clear : riverFault n (setLists old) ≡ false
     unfolding riverFault
@@ -198,14 +214,24 @@ module _ (n : ℕ) (old : NumberSet) (x : Columns) (state : State) (lent : Worki
           most-u′ = held .1;
         }
 
-    pub step-accepted : (c z w p y : List ℕ) → Sweep.Stepped n old (without x) (still state) lent u′ c z w p y →
-        StepOutcome n old x state lent u′ M (Stepped (record { upstream = u′; steps = state .steps + 1 }))
-        (Lent.state plain c z w u′ (state .steps + 1)) (Lent.working plain p y)
-    unfolding stepAnswer stepState stepWorking writeFigures figuresAt pairAt
-    step-accepted c z w p y done =
+    -- after the sweep the channel list still has an entry for each segment, and that of the highest figures one for each block
+    pub blocks-ready : (c z w p y : List ℕ) → Sweep.Stepped n old (without x) (still state) lent u′ c z w p y →
+        (n ≤ mostSegments) × (n ≤ length c) × (blockCount n ≤ length blocks)
+    blocks-ready c z w p y done =
+        let lists = columnLists x ++ stateLists state in
+        let new = map (λ (f : Figures). f .c) (stepped (state .upstream) u′ (pairsOf n old (without x)) (figuresOf n (still state))) in
+        let long = figures-long n x (state .channel) (state .storage) (state .sediment) (known .river) in
+        (counted n lists (known .river) .1, rw (done .state-after .of-channel) (le-trans (long .channel) (over-long new (state .channel))), blocks-long n blocks (fit .0))
+
+    pub step-accepted : (c z w p y left : List ℕ) → Sweep.Stepped n old (without x) (still state) lent u′ c z w p y → left ≡ over (highestOf n c) blocks →
+        StepOutcome n old x state blocks lent u′ M (Stepped (record { upstream = u′; steps = state .steps + 1 }))
+        (Lent.state plain c z w u′ (state .steps + 1)) left (Lent.working plain p y)
+    unfolding stepAnswer stepState stepHighest stepWorking writeFigures figuresAt pairAt
+    step-accepted c z w p y left done filled =
         let e = sym step-tests ∙ e in
         record {
           answer = rw (e, add-one (state .steps));
           state = rw (e, add-one (state .steps), done .state-after .of-channel, done .state-after .of-storage, done .state-after .of-sediment);
+          highest = rw (e, filled, done .state-after .of-channel);
           working = rw (e, done .working-after .of-p, done .working-after .of-y);
         }

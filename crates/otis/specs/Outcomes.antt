@@ -4,7 +4,7 @@ use mathlib.Core.List.{List}
 use Prim.Native.Nat.{ℕ}
 use Rattle.model.specs.State.{NumberSet, Columns, State}
 use Rattle.model.specs.Refusals.{Outcome, accepted, refused}
-use Rattle.model.specs.Calls.{River, startAnswer, startState, Working, stepAnswer, stepState, stepWorking}
+use Rattle.model.specs.Calls.{River, startAnswer, startState, startHighest, Working, stepAnswer, stepState, stepHighest, stepWorking}
 use Rattle.terms.specs.Lent.{state}
 use Rattle.otis.specs.declared.Start.{Start}
 use Rattle.otis.specs.declared.Step.{Step}
@@ -20,12 +20,14 @@ abbrev pub stateAfter : {A : Type 0} → (A → List ℕ) → (channel storage s
 stateAfter at channel storage sediment answer upstream steps =
     state at channel storage sediment (handed answer (λ v. v .upstream) upstream) (handed answer (λ v. v .steps) steps)
 
-pub record StartOutcome (n : ℕ) (x : Columns) (before : State) (u : ℕ) (r : Start) (after : State) : Type 0 where
-  pub answer : startSays r ≡ startAnswer n x before u
-  pub state : after ≡ startState n x before u
+pub record StartOutcome (n : ℕ) (x : Columns) (before : State) (lent : List ℕ) (u : ℕ) (r : Start) (after : State) (left : List ℕ) : Type 0 where
+  pub answer : startSays r ≡ startAnswer n x before lent u
+  pub state : after ≡ startState n x before lent u
+  pub highest : left ≡ startHighest n x before lent u
 
-pub record StepOutcome (n : ℕ) (old : NumberSet) (new : Columns) (before : State) (lent : Working) (u′ M : ℕ)
-    (r : Step) (after : State) (left : Working) : Type 0 where
-  pub answer : stepSays r ≡ stepAnswer n old new before lent u′ M
-  pub state : after ≡ stepState n old new before lent u′ M
-  pub working : left ≡ stepWorking n old new before lent u′ M
+pub record StepOutcome (n : ℕ) (old : NumberSet) (new : Columns) (before : State) (lent : List ℕ) (works : Working) (u′ M : ℕ)
+    (r : Step) (after : State) (left : List ℕ) (worked : Working) : Type 0 where
+  pub answer : stepSays r ≡ stepAnswer n old new before lent works u′ M
+  pub state : after ≡ stepState n old new before lent works u′ M
+  pub highest : left ≡ stepHighest n old new before lent works u′ M
+  pub working : worked ≡ stepWorking n old new before lent works u′ M

@@ -62,7 +62,7 @@ impl River {
     pub const SEGMENTS: u32 = SEGMENTS;
 
     // "A start sets C, Z and W to the start figure, U to that of step 0 and the count to 0": of n segments, whatever U and count the
-    // state had.
+    // state had. `highest` has the highest channel figure of each sixteen segments afterwards.
     pub fn start(
         n: u32,
         e: &[u32],
@@ -82,11 +82,12 @@ impl River {
         channel: &mut [u32],
         storage: &mut [u32],
         sediment: &mut [u32],
+        highest: &mut [u32],
         u: u32,
     ) -> Start
         ensures { λ r. ⌜ ((upstream steps : ℕ) → StartOutcome n (columns entry e g l a b k ks h m s cl cb kd start)
-            (state entry channel storage sediment upstream steps) u r
-            (stateAfter exit channel storage sediment (startSays r) upstream steps)) ⌝ }
+            (state entry channel storage sediment upstream steps) (entry highest) u r
+            (stateAfter exit channel storage sediment (startSays r) upstream steps) (exit highest)) ⌝ }
     {
         let found = start_test(
             n,
@@ -107,6 +108,7 @@ impl River {
             &channel[..],
             &storage[..],
             &sediment[..],
+            &highest[..],
             u,
         );
         match found {
@@ -115,6 +117,7 @@ impl River {
                 entries::copy(count, start, &mut channel[..]);
                 entries::copy(count, start, &mut storage[..]);
                 entries::copy(count, start, &mut sediment[..]);
+                blocks::fill(count, &channel[..], &mut highest[..]);
                 Start::Started(River {
                     upstream: u,
                     steps: 0,
@@ -124,8 +127,8 @@ impl River {
         }
     }
 
-    // One step from the state's U to U', which is `u`, where fewer than M steps are done; `steps` is M. p and y are working lists. The ten
-    // lists with 0 are the set of the step's old side, the plain ones that of its new side.
+    // One step from the state's U to U', which is `u`, where fewer than M steps are done; `steps` is M. p and y are working lists, `highest` is
+    // as in a start. The ten lists with 0 are the set of the step's old side, the plain ones that of its new side.
     pub fn step(
         self,
         n: u32,
@@ -156,6 +159,7 @@ impl River {
         channel: &mut [u32],
         storage: &mut [u32],
         sediment: &mut [u32],
+        highest: &mut [u32],
         p: &mut [u64],
         y: &mut [u64],
         u: u32,
@@ -163,17 +167,21 @@ impl River {
     ) -> Step
         ensures { λ r. ⌜ StepOutcome n (set entry e0 g0 l0 a0 b0 k0 ks0 h0 m0 s0)
             (columns entry e g l a b k ks h m s cl cb kd start)
-            (state entry channel storage sediment (self .upstream) (self .steps)) (working entry p y) u steps r
-            (stateAfter exit channel storage sediment (stepSays r) (self .upstream) (self .steps)) (working exit p y) ⌝ }
+            (state entry channel storage sediment (self .upstream) (self .steps)) (entry highest) (working entry p y) u steps r
+            (stateAfter exit channel storage sediment (stepSays r) (self .upstream) (self .steps)) (exit highest) (working exit p y) ⌝ }
     {
         let count = n as usize;
         let unfit = or_short(
-            count,
-            p.len(),
+            blocks::count(n),
+            highest.len(),
             or_short(
                 count,
-                y.len(),
-                set_short(count, e0, g0, l0, a0, b0, k0, ks0, h0, m0, s0),
+                p.len(),
+                or_short(
+                    count,
+                    y.len(),
+                    set_short(count, e0, g0, l0, a0, b0, k0, ks0, h0, m0, s0),
+                ),
             ),
         );
         let other = set_at_fault(count, e0, g0, l0, a0, b0, k0, ks0, h0, m0, s0);
@@ -238,6 +246,7 @@ impl River {
                     &mut p[..],
                     &mut y[..],
                 );
+                blocks::fill(count, &channel[..], &mut highest[..]);
                 let done = self.steps + 1;
                 Step::Stepped(River {
                     upstream: u,

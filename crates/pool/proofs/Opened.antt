@@ -16,16 +16,19 @@ use Rattle.model.specs.Equations.{Figures}
 use Rattle.model.specs.State.{Columns, loadedSegments, writeSegments}
 use Rattle.model.specs.Refusals.{Outcome, Finding, passes, fails, first, answer}
 use Rattle.model.specs.Load.{sheetTests, courseTests, riverTests, listTests, Loaded, loaded, columnsAfter}
+use Rattle.model.specs.Highest.{blockCount, highestAfter}
 use Rattle.model.specs.Calls.{startFigures}
-use Rattle.model.specs.Pool.{Slot, Pool, openSegments, tableFault, openTests, openAnswer, openColumns, poolAfterOpen, poolOpen}
-use Rattle.model.proofs.Refusals.{first-of, first-both}
+use Rattle.model.specs.Pool.{Slot, Pool, openSegments, tableFault, openTests, openAnswer, openColumns, poolAfterOpen, poolOpen, openHighest}
+use Rattle.model.proofs.Refusals.{all-pass, first-of, first-both}
 use Rattle.stretches.proofs.Openings.{newTests, lastTests, opening-passed}
 use Rattle.stretches.proofs.Pools.{shared-long}
 use Rattle.stretches.proofs.Tables.{room-clear}
 use Rattle.course.proofs.River.{few}
 use Rattle.assembly.specs.Fit.{Fit}
 use Rattle.assembly.proofs.LoadTests.{fit}
-use Rattle.pool.specs.Left.{WhereLoaded, listAfterOpen, tableAfterOpen}
+use Rattle.blocks.proofs.Fault.{blocks-long}
+use Rattle.blocks.proofs.Figures.{highest-first}
+use Rattle.pool.specs.Left.{WhereLoaded, listAfterOpen, highestAfterOpen, tableAfterOpen}
 
 -- a sheet that passes 1 to 12 has no more segments than a pool
 pub within : (sheet : List ℕ) → first (riverTests sheet) ≡ passes → segmentCount sheet ≤ mostSegments
@@ -38,17 +41,24 @@ unfolding loaded
 where-loaded sheet P passes a e holds = rw e (holds refl)
 where-loaded sheet P (fails number place) a e holds = rw e tt
 
-module _ (sheet : List ℕ) (r records : ℕ) (x : Columns) (p : Pool) (number u : ℕ) where
+module _ (sheet : List ℕ) (r records : ℕ) (x : Columns) (p : Pool) (number : ℕ) (highest : List ℕ) (u : ℕ) where
   -- its tests, one part behind the other
   pub open-found : (f1 f2 f3 f4 : Finding) → f1 ≡ first (riverTests sheet) → f2 ≡ first (f1 ∷ newTests (p .table) number (segmentCount sheet)) →
-      f3 ≡ first (f2 ∷ listTests sheet r records x) → f4 ≡ first (f3 ∷ lastTests p u) → f4 ≡ first (openTests sheet r records x p number u)
+      f3 ≡ first (f2 ∷ listTests sheet r records x) → f4 ≡ first (f3 ∷ lastTests p (segmentCount sheet) highest u) → f4 ≡ first (openTests sheet r records x p number highest u)
   unfolding openTests
   open-found f1 f2 f3 f4 e1 e2 e3 e4 =
       let new = newTests (p .table) number (segmentCount sheet) in
       let lists = listTests sheet r records x in
       let to2 : f2 ≡ first (riverTests sheet ++ new) = e2 ∙ ap (λ f. first (f ∷ new)) e1 ∙ first-of (riverTests sheet) new in
       let to3 : f3 ≡ first (riverTests sheet ++ new ++ lists) = e3 ∙ ap (λ f. first (f ∷ lists)) to2 ∙ first-of (riverTests sheet ++ new) lists in
-      e4 ∙ ap (λ f. first (f ∷ lastTests p u)) to3 ∙ first-of (riverTests sheet ++ new ++ lists) (lastTests p u)
+      e4 ∙ ap (λ f. first (f ∷ lastTests p (segmentCount sheet) highest u)) to3 ∙ first-of (riverTests sheet ++ new ++ lists) (lastTests p (segmentCount sheet) highest u)
+
+  -- where those before the last ones pass, the first ones have
+  pub listed-within : (f1 f2 f3 : Finding) → f1 ≡ first (riverTests sheet) → f2 ≡ first (f1 ∷ newTests (p .table) number (segmentCount sheet)) →
+      f3 ≡ first (f2 ∷ listTests sheet r records x) → f3 ≡ passes → segmentCount sheet ≤ mostSegments
+  listed-within f1 f2 f3 e1 e2 e3 pass =
+      let to2 = all-pass (f2 ∷ listTests sheet r records x) (sym e3 ∙ pass) .0 in
+      within sheet (sym e1 ∙ all-pass (f1 ∷ newTests (p .table) number (segmentCount sheet)) (sym e2 ∙ to2) .0)
 
   -- what they leave where all pass
   pub record Ready : Type 0 where
@@ -60,10 +70,11 @@ module _ (sheet : List ℕ) (r records : ℕ) (x : Columns) (p : Pool) (number u
     pub channel : mostSegments ≤ length (p .channel)
     pub storage : mostSegments ≤ length (p .storage)
     pub sediment : mostSegments ≤ length (p .sediment)
+    pub blocks : blockCount (segmentCount sheet) ≤ length highest
 
-  pub ready : (found : Finding) → found ≡ first (openTests sheet r records x p number u) → found ≡ passes → Ready
+  pub ready : (found : Finding) → found ≡ first (openTests sheet r records x p number highest u) → found ≡ passes → Ready
   ready found e pass =
-      let passed = opening-passed p number sheet r records x u (sym e ∙ pass) in
+      let passed = opening-passed p number sheet r records x highest u (sym e ∙ pass) in
       let room = room-clear (p .table) number (segmentCount sheet) (passed .room) in
       let long = shared-long p (passed .shared) in
       record {
@@ -75,14 +86,15 @@ module _ (sheet : List ℕ) (r records : ℕ) (x : Columns) (p : Pool) (number u
         channel = long .channel;
         storage = long .storage;
         sediment = long .sediment;
+        blocks = blocks-long (segmentCount sheet) highest (passed .blocks);
       }
 
-  module _ (found : Finding) (e : found ≡ first (openTests sheet r records x p number u)) where
-    pub open-answer : answer found (loaded sheet) ≡ openAnswer sheet r records x p number u
+  module _ (found : Finding) (e : found ≡ first (openTests sheet r records x p number highest u)) where
+    pub open-answer : answer found (loaded sheet) ≡ openAnswer sheet r records x p number highest u
     unfolding openAnswer
     open-answer = ap (λ t. answer t (loaded sheet)) e
 
-    pub open-columns : columnsAfter (answer found (loaded sheet)) sheet r x ≡ openColumns sheet r records x p number u
+    pub open-columns : columnsAfter (answer found (loaded sheet)) sheet r x ≡ openColumns sheet r records x p number highest u
     unfolding openColumns
     open-columns = ap (λ a. columnsAfter a sheet r x) open-answer
 
@@ -122,11 +134,23 @@ module _ (sheet : List ℕ) (r records : ℕ) (x : Columns) (p : Pool) (number u
       )
   open-after (fails k place) start c z w table s ec ez ew et = rw (ec, ez, ew, et)
 
-  pub open-pool : (found : Finding) → found ≡ first (openTests sheet r records x p number u) → (start c z w : List ℕ) (table : List Slot) →
+  pub open-pool : (found : Finding) → found ≡ first (openTests sheet r records x p number highest u) → (start c z w : List ℕ) (table : List Slot) →
       start ≡ columnsAfter (answer found (loaded sheet)) sheet r x .start →
       c ≡ listAfterOpen (answer found (loaded sheet)) (p .table) start (p .channel) → z ≡ listAfterOpen (answer found (loaded sheet)) (p .table) start (p .storage) →
       w ≡ listAfterOpen (answer found (loaded sheet)) (p .table) start (p .sediment) → table ≡ tableAfterOpen (answer found (loaded sheet)) (p .table) number u →
-      record { table = table; channel = c; storage = z; sediment = w } ≡ poolOpen sheet r records x p number u
+      record { table = table; channel = c; storage = z; sediment = w } ≡ poolOpen sheet r records x p number highest u
   unfolding poolOpen
   open-pool found e start c z w table s ec ez ew et =
       open-after found start c z w table s ec ez ew et ∙ ap (λ a. poolAfterOpen a sheet r p number u) (open-answer found e)
+
+  pub open-highest : (found : Finding) → found ≡ first (openTests sheet r records x p number highest u) → (start left : List ℕ) →
+      start ≡ columnsAfter (answer found (loaded sheet)) sheet r x .start → left ≡ highestAfterOpen (answer found (loaded sheet)) start highest →
+      left ≡ openHighest sheet r records x p number highest u
+  unfolding openHighest loaded
+  open-highest found e start left s el = el ∙ after found s ∙ ap (λ a. highestAfter a (segmentCount sheet) (map (λ (f : Figures). f .c) (map startFigures (loadedSegments sheet r))) highest) (open-answer found e)
+    where
+      after : (found : Finding) → start ≡ columnsAfter (answer found (loaded sheet)) sheet r x .start →
+          highestAfterOpen (answer found (loaded sheet)) start highest
+          ≡ highestAfter (answer found (loaded sheet)) (segmentCount sheet) (map (λ (f : Figures). f .c) (map startFigures (loadedSegments sheet r))) highest
+      after passes s = rw (s, highest-first (segmentCount sheet) (writeSegments (loadedSegments sheet r) x .start), figures (λ f. f .c) (λ q. refl))
+      after (fails k place) s = refl

@@ -10,10 +10,10 @@ use Rattle.model.specs.Ranges.{mostSegments, mostRivers}
 use Rattle.model.specs.State.{NumberSet, Columns, State}
 use Rattle.model.specs.Refusals.{Place, Outcome, accepted, refused, passes, fails, first}
 use Rattle.model.specs.Calls.{River, Working, startTests, startAnswer, startState, stepTests, stepAnswer, stepState, reportTests, reportAnswer}
-use Rattle.model.specs.Pool.{Slot, endOf, slotOf, Pool, stateOf, poolTests, poolAfter, poolStartTests, poolStartAnswer, poolStart}
-use Rattle.model.specs.Pool.{poolStepTests, poolStepAnswer, poolStep, poolStepWorking, poolReportTests, poolReportAnswer}
+use Rattle.model.specs.Pool.{Slot, endOf, slotOf, Pool, stateOf, poolTests, poolAfter, poolStartTests, poolStartAnswer, poolStart, poolStartHighest}
+use Rattle.model.specs.Pool.{poolStepTests, poolStepAnswer, poolStep, poolStepHighest, poolStepWorking, poolReportTests, poolReportAnswer}
 use Rattle.model.proofs.Refusals.{first-front}
-use Rattle.stretches.proofs.Answers.{tests-clear, start-alone, step-alone, works-alone, report-alone}
+use Rattle.stretches.proofs.Answers.{tests-clear, start-alone, start-highest-alone, step-alone, step-highest-alone, works-alone, report-alone}
 use Rattle.stretches.proofs.Pools.{shared-long}
 use Rattle.stretches.proofs.Tables.{number-clear, fault-apart}
 use Rattle.terms.specs.Lent.{state}
@@ -102,51 +102,58 @@ module _ (p : Pool) (number : ℕ) (x : Slot) (e : x ≡ slotOf (p .table) numbe
 
 -- ---- a start
 
-start-refused : (n : ℕ) (cols : Columns) (s : State) (u : ℕ) {k : ℕ} {place : Place} → startAnswer n cols s u ≡ refused k place → startState n cols s u ≡ s
+start-refused : (n : ℕ) (cols : Columns) (s : State) (highest : List ℕ) (u : ℕ) {k : ℕ} {place : Place} → startAnswer n cols s highest u ≡ refused k place →
+    startState n cols s highest u ≡ s
 unfolding startState
-start-refused n cols s u e = rw e
+start-refused n cols s highest u e = rw e
 
-module _ (p : Pool) (number : ℕ) (x : Slot) (e : x ≡ slotOf (p .table) number) (pass : first (poolTests p number) ≡ passes) (cols : Columns) (u : ℕ)
-    (r : Start) (c z w : List ℕ)
-    (o : (upstream steps : ℕ) → StartOutcome (x .segments) cols (parts x (p .channel) (p .storage) (p .sediment) upstream steps) u r (stateAfter plain c z w (startSays r) upstream steps)) where
-  begun : StartOutcome (slotOf (p .table) number .segments) cols (stateOf p number) u r (stateAfter plain c z w (startSays r) (x .upstream) (x .steps))
+module _ (p : Pool) (number : ℕ) (x : Slot) (e : x ≡ slotOf (p .table) number) (pass : first (poolTests p number) ≡ passes)
+    (cols : Columns) (highest : List ℕ) (u : ℕ) (r : Start) (c z w left : List ℕ)
+    (o : (upstream steps : ℕ) → StartOutcome (x .segments) cols (parts x (p .channel) (p .storage) (p .sediment) upstream steps) highest u r (stateAfter plain c z w (startSays r) upstream steps) left) where
+  begun : StartOutcome (slotOf (p .table) number .segments) cols (stateOf p number) highest u r (stateAfter plain c z w (startSays r) (x .upstream) (x .steps)) left
   begun = rw (parts-are p number x e, ap (λ (y : Slot). y .segments) e) at (o (x .upstream) (x .steps))
 
-  pub start-answer : startSays r ≡ poolStartAnswer p number cols u
-  start-answer = begun .answer ∙ sym (start-alone p number pass cols u)
+  pub start-answer : startSays r ≡ poolStartAnswer p number cols highest u
+  start-answer = begun .answer ∙ sym (start-alone p number pass cols highest u)
 
-  pub start-pool : (table : List Slot) → table ≡ tableAfter (startSays r) (p .table) (number - 1) x → returned p x table c z w ≡ poolStart p number cols u
+  pub start-highest : left ≡ poolStartHighest p number cols highest u
+  start-highest = begun .highest ∙ sym (start-highest-alone p number pass cols highest u)
+
+  pub start-pool : (table : List Slot) → table ≡ tableAfter (startSays r) (p .table) (number - 1) x → returned p x table c z w ≡ poolStart p number cols highest u
   unfolding poolStart
   start-pool table t =
       written p number x e (startSays r) c z w table t
-      (λ k place q. begun .state ∙ start-refused _ cols (stateOf p number) u (sym (begun .answer) ∙ q))
+      (λ k place q. begun .state ∙ start-refused _ cols (stateOf p number) highest u (sym (begun .answer) ∙ q))
       ∙ rw (begun .state, start-answer)
 
 -- ---- a step
 
-step-refused : (n : ℕ) (old : NumberSet) (new : Columns) (s : State) (working : Working) (u′ M : ℕ) {k : ℕ} {place : Place} →
-    stepAnswer n old new s working u′ M ≡ refused k place → stepState n old new s working u′ M ≡ s
+step-refused : (n : ℕ) (old : NumberSet) (new : Columns) (s : State) (highest : List ℕ) (working : Working) (u′ M : ℕ) {k : ℕ} {place : Place} →
+    stepAnswer n old new s highest working u′ M ≡ refused k place → stepState n old new s highest working u′ M ≡ s
 unfolding stepState
-step-refused n old new s working u′ M e = rw e
+step-refused n old new s highest working u′ M e = rw e
 
 module _ (p : Pool) (number : ℕ) (x : Slot) (e : x ≡ slotOf (p .table) number) (pass : first (poolTests p number) ≡ passes)
-    (old : NumberSet) (new : Columns) (lent : Working) (u′ M : ℕ) (r : Step) (c z w : List ℕ) (left : Working)
-    (o : StepOutcome (x .segments) old new (parts x (p .channel) (p .storage) (p .sediment) (x .upstream) (x .steps)) lent u′ M r (stateAfter plain c z w (stepSays r) (x .upstream) (x .steps)) left) where
-  stepped : StepOutcome (slotOf (p .table) number .segments) old new (stateOf p number) lent u′ M r (stateAfter plain c z w (stepSays r) (x .upstream) (x .steps)) left
+    (old : NumberSet) (new : Columns) (highest : List ℕ) (lent : Working) (u′ M : ℕ) (r : Step) (c z w left : List ℕ) (worked : Working)
+    (o : StepOutcome (x .segments) old new (parts x (p .channel) (p .storage) (p .sediment) (x .upstream) (x .steps)) highest lent u′ M r (stateAfter plain c z w (stepSays r) (x .upstream) (x .steps)) left worked) where
+  stepped : StepOutcome (slotOf (p .table) number .segments) old new (stateOf p number) highest lent u′ M r (stateAfter plain c z w (stepSays r) (x .upstream) (x .steps)) left worked
   stepped = rw (parts-are p number x e, ap (λ (y : Slot). y .segments) e) at o
 
-  pub step-answer : stepSays r ≡ poolStepAnswer p number old new lent u′ M
-  step-answer = stepped .answer ∙ sym (step-alone p number pass old new lent u′ M)
+  pub step-answer : stepSays r ≡ poolStepAnswer p number old new highest lent u′ M
+  step-answer = stepped .answer ∙ sym (step-alone p number pass old new highest lent u′ M)
 
-  pub step-pool : (table : List Slot) → table ≡ tableAfter (stepSays r) (p .table) (number - 1) x → returned p x table c z w ≡ poolStep p number old new lent u′ M
+  pub step-highest : left ≡ poolStepHighest p number old new highest lent u′ M
+  step-highest = stepped .highest ∙ sym (step-highest-alone p number pass old new highest lent u′ M)
+
+  pub step-pool : (table : List Slot) → table ≡ tableAfter (stepSays r) (p .table) (number - 1) x → returned p x table c z w ≡ poolStep p number old new highest lent u′ M
   unfolding poolStep
   step-pool table t =
       written p number x e (stepSays r) c z w table t
-      (λ k place q. stepped .state ∙ step-refused _ old new (stateOf p number) lent u′ M (sym (stepped .answer) ∙ q))
+      (λ k place q. stepped .state ∙ step-refused _ old new (stateOf p number) highest lent u′ M (sym (stepped .answer) ∙ q))
       ∙ rw (stepped .state, step-answer)
 
-  pub step-working : left ≡ poolStepWorking p number old new lent u′ M
-  step-working = stepped .working ∙ sym (works-alone p number pass old new lent u′ M)
+  pub step-working : worked ≡ poolStepWorking p number old new highest lent u′ M
+  step-working = stepped .working ∙ sym (works-alone p number pass old new highest lent u′ M)
 
 -- ---- a report
 
@@ -158,24 +165,33 @@ report-answer p number x e pass cols segment =
 -- ---- refused by the pool's own tests
 
 module _ (p : Pool) (number : ℕ) {k : ℕ} {place : Place} (fault : first (poolTests p number) ≡ fails k place) where
-  pub no-start : (cols : Columns) (u : ℕ) → poolStartAnswer p number cols u ≡ refused k place
-  unfolding poolStartAnswer poolStartTests
-  no-start cols u = rw (first-front (poolTests p number) (startTests (slotOf (p .table) number .segments) cols (stateOf p number) u) fault)
+  module _ (cols : Columns) (highest : List ℕ) (u : ℕ) where
+    pub no-start : poolStartAnswer p number cols highest u ≡ refused k place
+    unfolding poolStartAnswer poolStartTests
+    no-start = rw (first-front (poolTests p number) (startTests (slotOf (p .table) number .segments) cols (stateOf p number) highest u) fault)
 
-  pub no-started : (cols : Columns) (u : ℕ) → poolStart p number cols u ≡ p
-  unfolding poolStart
-  no-started cols u = rw (no-start cols u)
+    pub no-started : poolStart p number cols highest u ≡ p
+    unfolding poolStart
+    no-started = rw no-start
 
-  module _ (old : NumberSet) (new : Columns) (lent : Working) (u′ M : ℕ) where
-    pub no-step : poolStepAnswer p number old new lent u′ M ≡ refused k place
+    pub no-start-highest : poolStartHighest p number cols highest u ≡ highest
+    unfolding poolStartHighest
+    no-start-highest = rw no-start
+
+  module _ (old : NumberSet) (new : Columns) (highest : List ℕ) (lent : Working) (u′ M : ℕ) where
+    pub no-step : poolStepAnswer p number old new highest lent u′ M ≡ refused k place
     unfolding poolStepAnswer poolStepTests
-    no-step = rw (first-front (poolTests p number) (stepTests (slotOf (p .table) number .segments) old new (stateOf p number) lent u′ M) fault)
+    no-step = rw (first-front (poolTests p number) (stepTests (slotOf (p .table) number .segments) old new (stateOf p number) highest lent u′ M) fault)
 
-    pub no-stepped : poolStep p number old new lent u′ M ≡ p
+    pub no-stepped : poolStep p number old new highest lent u′ M ≡ p
     unfolding poolStep
     no-stepped = rw no-step
 
-    pub no-worked : poolStepWorking p number old new lent u′ M ≡ lent
+    pub no-step-highest : poolStepHighest p number old new highest lent u′ M ≡ highest
+    unfolding poolStepHighest
+    no-step-highest = rw no-step
+
+    pub no-worked : poolStepWorking p number old new highest lent u′ M ≡ lent
     unfolding poolStepWorking
     no-worked = rw no-step
 

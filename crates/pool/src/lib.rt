@@ -8,14 +8,15 @@ ghost use lib.ListN.{length};
 ghost use Rattle.lists.specs.Lent.{entry, exit};
 ghost use Rattle.model.specs.Ranges.{outside, concentration, mostSegments, mostRivers};
 ghost use Rattle.model.specs.Sheet.{segmentCount};
+ghost use Rattle.model.specs.Highest.{blockCount};
 ghost use Rattle.model.specs.Refusals.{passes, test, first};
-ghost use Rattle.model.specs.Pool.{openSegments, roomFault, tableFault, poolTests, poolStartAnswer, poolStart, poolStepAnswer, poolStep, poolStepWorking, poolReportAnswer, closeFinding, closedTable, openAnswer, openColumns, poolOpen};
+ghost use Rattle.model.specs.Pool.{openSegments, roomFault, tableFault, poolTests, poolStartAnswer, poolStart, poolStartHighest, poolStepAnswer, poolStep, poolStepHighest, poolStepWorking, poolReportAnswer, closeFinding, closedTable, openAnswer, openColumns, poolOpen, openHighest};
 ghost use Rattle.terms.specs.Says.{findingSays};
 ghost use Rattle.terms.specs.Lent.{set, columns, working, tableIn, pool};
 ghost use Rattle.assembly.specs.Says.{loadSays};
 ghost use Rattle.otis.specs.Says.{startSays, stepSays, reportSays};
 ghost use Rattle.slots.specs.Says.{slotSays};
-ghost use Rattle.pool.specs.Left.{tableAfter, WhereLoaded, listAfterOpen, tableAfterOpen};
+ghost use Rattle.pool.specs.Left.{tableAfter, WhereLoaded, listAfterOpen, highestAfterOpen, tableAfterOpen};
 use assembly::Load;
 use assembly::Loaded;
 use assembly::list_test;
@@ -95,7 +96,7 @@ fn keep_stepped(answer: Step, table: &mut [u32; 40], i: usize, x: Slot)
     }
 }
 
-// A start of an open river: tests 18, 13 and 14.
+// A start of an open river: tests 18, 13 and 14. `highest` is the river's own list.
 pub fn start(
     river: u32,
     e: &[u32],
@@ -115,11 +116,13 @@ pub fn start(
     channel: &mut [u32],
     storage: &mut [u32],
     sediment: &mut [u32],
+    highest: &mut [u32],
     table: &mut [u32; 40],
     u: u32,
 ) -> Start
-    ensures answer { λ r. ⌜ startSays r ≡ poolStartAnswer (pool entry channel storage sediment table) river (columns entry e g l a b k ks h m s cl cb kd start) u ⌝ }
-    ensures pool { λ r. ⌜ pool exit channel storage sediment table ≡ poolStart (pool entry channel storage sediment table) river (columns entry e g l a b k ks h m s cl cb kd start) u ⌝ }
+    ensures answer { λ r. ⌜ startSays r ≡ poolStartAnswer (pool entry channel storage sediment table) river (columns entry e g l a b k ks h m s cl cb kd start) (entry highest) u ⌝ }
+    ensures pool { λ r. ⌜ pool exit channel storage sediment table ≡ poolStart (pool entry channel storage sediment table) river (columns entry e g l a b k ks h m s cl cb kd start) (entry highest) u ⌝ }
+    ensures highest { λ r. ⌜ exit highest ≡ poolStartHighest (pool entry channel storage sediment table) river (columns entry e g l a b k ks h m s cl cb kd start) (entry highest) u ⌝ }
 {
     let found = pool_test(river, &channel[..], &storage[..], &sediment[..], &*table);
     if let Finding::Fails(number, place) = found {
@@ -148,6 +151,7 @@ pub fn start(
         &mut channel[first..end],
         &mut storage[first..end],
         &mut sediment[first..end],
+        highest,
         u,
     );
     keep_started(answer, table, at, x);
@@ -184,6 +188,7 @@ pub fn step(
     channel: &mut [u32],
     storage: &mut [u32],
     sediment: &mut [u32],
+    highest: &mut [u32],
     table: &mut [u32; 40],
     p: &mut [u64],
     y: &mut [u64],
@@ -191,11 +196,13 @@ pub fn step(
     steps: u32,
 ) -> Step
     ensures answer { λ r. ⌜ stepSays r ≡ poolStepAnswer (pool entry channel storage sediment table) river (set entry e0 g0 l0 a0 b0 k0 ks0 h0 m0 s0)
-        (columns entry e g l a b k ks h m s cl cb kd start) (working entry p y) u steps ⌝ }
+        (columns entry e g l a b k ks h m s cl cb kd start) (entry highest) (working entry p y) u steps ⌝ }
     ensures pool { λ r. ⌜ pool exit channel storage sediment table ≡ poolStep (pool entry channel storage sediment table) river
-        (set entry e0 g0 l0 a0 b0 k0 ks0 h0 m0 s0) (columns entry e g l a b k ks h m s cl cb kd start) (working entry p y) u steps ⌝ }
+        (set entry e0 g0 l0 a0 b0 k0 ks0 h0 m0 s0) (columns entry e g l a b k ks h m s cl cb kd start) (entry highest) (working entry p y) u steps ⌝ }
+    ensures highest { λ r. ⌜ exit highest ≡ poolStepHighest (pool entry channel storage sediment table) river (set entry e0 g0 l0 a0 b0 k0 ks0 h0 m0 s0)
+        (columns entry e g l a b k ks h m s cl cb kd start) (entry highest) (working entry p y) u steps ⌝ }
     ensures working { λ r. ⌜ working exit p y ≡ poolStepWorking (pool entry channel storage sediment table) river (set entry e0 g0 l0 a0 b0 k0 ks0 h0 m0 s0)
-        (columns entry e g l a b k ks h m s cl cb kd start) (working entry p y) u steps ⌝ }
+        (columns entry e g l a b k ks h m s cl cb kd start) (entry highest) (working entry p y) u steps ⌝ }
 {
     let found = pool_test(river, &channel[..], &storage[..], &sediment[..], &*table);
     if let Finding::Fails(number, place) = found {
@@ -238,6 +245,7 @@ pub fn step(
         &mut channel[first..end],
         &mut storage[first..end],
         &mut sediment[first..end],
+        highest,
         p,
         y,
         u,
@@ -348,15 +356,27 @@ fn room_test(found: Finding, sheet: &[u8], table: &[u32; 40], river: u32) -> Fin
     Finding::Passes
 }
 
-// 13 of the shared lists, by their lengths, and then 14 of U, behind the tests before.
-fn last_test(found: Finding, channel: usize, storage: usize, sediment: usize, u: u32) -> Finding
-    ensures { λ r. ⌜ findingSays r ≡ first (findingSays found ∷ test 13 (ltb channel mostSegments || (ltb storage mostSegments || (ltb sediment mostSegments || false)))
-        ∷ test 14 (outside concentration u) ∷ []) ⌝ }
+// 13 of the shared lists and of the highest figures, by their lengths, and then 14 of U, behind the tests before.
+fn last_test(
+    found: Finding,
+    sheet: &[u8],
+    channel: usize,
+    storage: usize,
+    sediment: usize,
+    highest: usize,
+    u: u32,
+) -> Finding
+    requires { ⌜ (findingSays found ≡ passes → segmentCount (now sheet) ≤ mostSegments) ⌝ }
+    ensures { λ r. ⌜ findingSays r ≡ first (findingSays found ∷ test 13 ((ltb channel mostSegments || (ltb storage mostSegments || (ltb sediment mostSegments || false)))
+        || ltb highest (blockCount (segmentCount (entry sheet)))) ∷ test 14 (outside concentration u) ∷ []) ⌝ }
 {
     if let Finding::Fails(number, place) = found {
         return Finding::Fails(number, place);
     }
     if any_short(channel, storage, sediment) {
+        return Finding::Fails(13, Place::Nothing);
+    }
+    if highest < blocks::count(segment_count(sheet) as u32) {
         return Finding::Fails(13, Place::Nothing);
     }
     if HIGHEST < u {
@@ -372,6 +392,16 @@ fn pack_if(answer: Load, table: [u32; 40], figures: &[u32], list: &mut [u32])
 {
     if let Load::Loaded(v) = answer {
         pack_with(table, v.segments as usize, figures, list);
+    }
+}
+
+// The highest figures after it: those of the new river's start figures.
+fn fill_if(answer: Load, figures: &[u32], highest: &mut [u32])
+    requires { ⌜ WhereLoaded (loadSays answer) (λ n. (n ≤ mostSegments) × (n ≤ length (now figures)) × (blockCount n ≤ length (now highest))) ⌝ }
+    ensures { λ _. ⌜ exit highest ≡ highestAfterOpen (loadSays answer) (entry figures) (entry highest) ⌝ }
+{
+    if let Load::Loaded(v) = answer {
+        blocks::fill(v.segments as usize, figures, highest);
     }
 }
 
@@ -409,15 +439,18 @@ pub fn open_lists(
     channel: &mut [u32],
     storage: &mut [u32],
     sediment: &mut [u32],
+    highest: &mut [u32],
     table: &mut [u32; 40],
     u: u32,
 ) -> Load
     ensures answer { λ r. ⌜ loadSays r ≡ openAnswer (entry sheet) row records (columns entry e g l a b k ks h m s cl cb kd start)
-        (pool entry channel storage sediment table) river u ⌝ }
+        (pool entry channel storage sediment table) river (entry highest) u ⌝ }
     ensures lists { λ r. ⌜ columns exit e g l a b k ks h m s cl cb kd start ≡ openColumns (entry sheet) row records (columns entry e g l a b k ks h m s cl cb kd start)
-        (pool entry channel storage sediment table) river u ⌝ }
+        (pool entry channel storage sediment table) river (entry highest) u ⌝ }
     ensures pool { λ r. ⌜ pool exit channel storage sediment table ≡ poolOpen (entry sheet) row records (columns entry e g l a b k ks h m s cl cb kd start)
-        (pool entry channel storage sediment table) river u ⌝ }
+        (pool entry channel storage sediment table) river (entry highest) u ⌝ }
+    ensures highest { λ r. ⌜ exit highest ≡ openHighest (entry sheet) row records (columns entry e g l a b k ks h m s cl cb kd start)
+        (pool entry channel storage sediment table) river (entry highest) u ⌝ }
 {
     let listed = list_test(
         room_test(river_test(sheet), sheet, &*table, river),
@@ -439,7 +472,15 @@ pub fn open_lists(
         &kd[..],
         &start[..],
     );
-    let found = last_test(listed, channel.len(), storage.len(), sediment.len(), u);
+    let found = last_test(
+        listed,
+        sheet,
+        channel.len(),
+        storage.len(),
+        sediment.len(),
+        highest.len(),
+        u,
+    );
     let answer = Loaded::write(
         found,
         sheet,
@@ -462,6 +503,7 @@ pub fn open_lists(
     pack_if(answer, *table, &start[..], channel);
     pack_if(answer, *table, &start[..], storage);
     pack_if(answer, *table, &start[..], sediment);
+    fill_if(answer, &start[..], highest);
     pack_table_if(answer, table, river, u);
     answer
 }

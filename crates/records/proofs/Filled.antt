@@ -17,6 +17,7 @@ use Rattle.model.specs.Ranges.{outside, concentration}
 use Rattle.model.specs.Refusals.{Finding, passes, fails, test, first, answer, outcomeOf}
 use Rattle.model.specs.State.{Columns, columnLists}
 use Rattle.model.specs.Load.{loaded, riverTests, listTests, loadTests, loadAnswer, loadRecords, recordsAfter}
+use Rattle.model.specs.Highest.{blocksFault}
 use Rattle.model.specs.Pool.{Pool, roomFault, tableFault, sharedFault, openTests, openAnswer, openRecords}
 use Rattle.model.proofs.Refusals.{first-both, all-pass, test-clear}
 use Rattle.terms.specs.Says.{reachSays}
@@ -90,11 +91,11 @@ module _ (sheet : List ℕ) (row : ℕ) (before : List Reach) (columns : Columns
   load-records = outcome-fills (loadTests sheet row (length before) columns) (λ e. first-both (riverTests sheet) (listTests sheet row (length before) columns) e .1)
 
   -- an opening: document 02, 3
-  pub open-records : (pool : Pool) (number u : ℕ) →
-      filled sheet (fillCount (openAnswer sheet row (length before) columns pool number u) (reachCount sheet)) before ≡ openRecords sheet row before columns pool number u
+  pub open-records : (pool : Pool) (number : ℕ) (highest : List ℕ) (u : ℕ) →
+      filled sheet (fillCount (openAnswer sheet row (length before) columns pool number highest u) (reachCount sheet)) before ≡ openRecords sheet row before columns pool number highest u
   unfolding openRecords openAnswer openTests
-  open-records pool number u =
+  open-records pool number highest u =
       let front = riverTests sheet ++ (test 17 (roomFault (pool .table) number (segmentCount sheet)) ∷ test 18 (tableFault (pool .table)) ∷ []) in
       let lists = listTests sheet row (length before) columns in
-      let behind = test 13 (sharedFault pool) ∷ test 14 (outside concentration u) ∷ [] in
-      outcome-fills (openTests sheet row (length before) columns pool number u) (λ e. first-both front lists (first-both (front ++ lists) behind e .0) .1)
+      let behind = test 13 (sharedFault pool || blocksFault (segmentCount sheet) highest) ∷ test 14 (outside concentration u) ∷ [] in
+      outcome-fills (openTests sheet row (length before) columns pool number highest u) (λ e. first-both front lists (first-both (front ++ lists) behind e .0) .1)

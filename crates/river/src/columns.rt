@@ -1,5 +1,6 @@
 // What the program holds of a flow, and the calls on it.
 use assembly::Load;
+use blocks::BLOCK;
 use loading::load_lists;
 use otis::Report;
 use otis::River;
@@ -9,6 +10,9 @@ use terms::Place;
 
 // The most segments that a sheet can have.
 pub const SEGMENTS: usize = River::SEGMENTS as usize;
+
+// The highest channel figures of that many segments: one for each sixteen begun.
+pub const BLOCKS: usize = (SEGMENTS + BLOCK - 1) / BLOCK;
 
 // The fourteen lists of a loading stand behind one another in one list, `columns`, each with room for the most segments: the ten half-step
 // numbers e to s, CL, CB, Kd and the start figures. So a river holds two sets in two lists, and the k-th list of one stands from Ck on.
@@ -157,6 +161,7 @@ pub fn start(
     channel: &mut [u32],
     storage: &mut [u32],
     sediment: &mut [u32],
+    highest: &mut [u32],
     u: u32,
 ) -> River {
     let none = River {
@@ -185,6 +190,7 @@ pub fn start(
         channel,
         storage,
         sediment,
+        highest,
         u,
     );
     match started {
@@ -211,6 +217,7 @@ pub fn step(
     channel: &mut [u32],
     storage: &mut [u32],
     sediment: &mut [u32],
+    highest: &mut [u32],
     p: &mut [u64],
     y: &mut [u64],
     u: u32,
@@ -251,6 +258,7 @@ pub fn step(
         channel,
         storage,
         sediment,
+        highest,
         p,
         y,
         u,

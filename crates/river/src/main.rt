@@ -4,6 +4,7 @@ use assembly::Load;
 use assembly::Loaded;
 use boundary::Upstream;
 use boundary::rows::upstream;
+use columns::BLOCKS;
 use columns::C14;
 use columns::SEGMENTS;
 use columns::copy_columns;
@@ -133,6 +134,7 @@ fn run(
     channel: &mut [u32],
     storage: &mut [u32],
     sediment: &mut [u32],
+    highest: &mut [u32],
     p: &mut [u64],
     y: &mut [u64],
     buffer: &mut [u8],
@@ -156,6 +158,7 @@ fn run(
             &mut channel[..],
             &mut storage[..],
             &mut sediment[..],
+            &mut highest[..],
             &mut p[..],
             &mut y[..],
             u,
@@ -191,6 +194,7 @@ fn print_listing(sheet: &[u8], loaded: Loaded, columns: &mut [u32]) {
     let mut channel = [0u32; SEGMENTS];
     let mut storage = [0u32; SEGMENTS];
     let mut sediment = [0u32; SEGMENTS];
+    let mut highest = [0u32; BLOCKS];
     let mut p = [0u64; SEGMENTS];
     let mut y = [0u64; SEGMENTS];
     let mut buffer = io::large_buffer();
@@ -207,6 +211,7 @@ fn print_listing(sheet: &[u8], loaded: Loaded, columns: &mut [u32]) {
         &mut channel,
         &mut storage,
         &mut sediment,
+        &mut highest,
         u,
     );
     run(
@@ -220,6 +225,7 @@ fn print_listing(sheet: &[u8], loaded: Loaded, columns: &mut [u32]) {
         &mut channel,
         &mut storage,
         &mut sediment,
+        &mut highest,
         &mut p,
         &mut y,
         &mut buffer,

@@ -1,5 +1,5 @@
 -- What calls on a river that is not open answer: 18.
-use mathlib.Core.Path.{_≡_, refl}
+use mathlib.Core.Path.{_≡_, refl, _∙_}
 use mathlib.Core.Bool.{Bool, true, false, not, _||_}
 use mathlib.Core.List.{List, _++_}
 use Prim.Native.Nat.{ℕ, _-_, _≤_}
@@ -8,7 +8,7 @@ use Rattle.model.specs.State.{State}
 use Rattle.model.specs.Refusals.{nothing, Finding, fails, first}
 use Rattle.model.specs.Calls.{startTests, stepTests, reportTests}
 use Rattle.model.specs.Pool.{Slot, isOpen, slotOf, Pool, stateOf, tableFault, numberFault, poolTests}
-use Rattle.model.specs.Pool.{poolStartTests, poolStartAnswer, poolStepTests, poolStepAnswer, poolReportTests, poolReportAnswer, closeFinding}
+use Rattle.model.specs.Pool.{poolStartTests, poolStartAnswer, poolStepTests, poolStepAnswer, poolReportTests, poolReportAnswer, poolSearchTests, closeFinding}
 use Rattle.model.specs.PoolClaim.{NotOpen}
 use Rattle.model.proofs.Ranges.{inside}
 use Rattle.model.proofs.Refusals.{first-front}
@@ -33,12 +33,13 @@ shut-fault pool number e = rw e
 
 -- each of its calls is refused with 18
 pub not-open : (pool : Pool) (number : ℕ) → (1 ≤ number → number ≤ mostRivers → isOpen (slotOf (pool .table) number) ≡ false) → NotOpen pool number
-unfolding poolStartAnswer poolStartTests poolStepAnswer poolStepTests poolReportAnswer poolReportTests closeFinding
+unfolding poolStartAnswer poolStartTests poolStepAnswer poolStepTests poolReportAnswer poolReportTests poolSearchTests closeFinding
 not-open pool number closed = record {
   closed = closed;
-  starts = λ columns u. rw (refusal (startTests n columns state u));
-  steps = λ old new working u′ M. rw (refusal (stepTests n old new state working u′ M));
+  starts = λ columns highest u. rw (refusal (startTests n columns state highest u));
+  steps = λ old new highest working u′ M. rw (refusal (stepTests n old new state highest working u′ M));
   reports = λ columns segment. rw (refusal (reportTests n columns state segment));
+  searches = λ highest limit answer s. s .is ∙ rw (number-shut (pool .table) number closed);
   closes = rw (number-shut (pool .table) number closed);
 }
   where

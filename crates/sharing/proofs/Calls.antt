@@ -71,33 +71,33 @@ module _ (pool : Pool) (number : ℕ) (sound : Sound pool) where
         record { sound = c .sound; others = c .others; own = λ x f h l. c .closed }
 
   -- what a start on a pool does
-  does-start : (columns : Columns) (u : ℕ) → Does pool (starting number columns u)
+  does-start : (columns : Columns) (highest : List ℕ) (u : ℕ) → Does pool (starting number columns highest u)
   unfolding poolAccepts afterCall poolStart poolStartAnswer poolStartTests after
-  does-start columns u = go (first (poolTests pool number ++ startTests n columns (stateOf pool number) u)) refl
+  does-start columns highest u = go (first (poolTests pool number ++ startTests n columns (stateOf pool number) highest u)) refl
     where
       n : ℕ
       n = slotOf (pool .table) number .segments
 
-      go : (t : Finding) → first (poolTests pool number ++ startTests n columns (stateOf pool number) u) ≡ t → Does pool (starting number columns u)
+      go : (t : Finding) → first (poolTests pool number ++ startTests n columns (stateOf pool number) highest u) ≡ t → Does pool (starting number columns highest u)
       go passes e =
           let clear = passed-18 pool number _ e in
-          Does.changes (rw e) (rw e (state-changed clear (start (record { count = n; columns = columns }) u)
-          (startState n columns (stateOf pool number) u) (start-own n columns (stateOf pool number) (lists clear) u) refl))
+          Does.changes (rw e) (rw e (state-changed clear (start (record { count = n; columns = columns }) highest u)
+          (startState n columns (stateOf pool number) highest u) (start-own n columns (stateOf pool number) (lists clear) highest u) refl))
       go (fails k place) e = Does.refuses (rw e) (rw e)
 
   -- what a step does
-  does-step : (old : NumberSet) (new : Columns) (working : Working) (u′ M : ℕ) → Does pool (stepping number old new working u′ M)
+  does-step : (old : NumberSet) (new : Columns) (highest : List ℕ) (working : Working) (u′ M : ℕ) → Does pool (stepping number old new highest working u′ M)
   unfolding poolAccepts afterCall poolStep poolStepAnswer poolStepTests after
-  does-step old new working u′ M = go (first (poolTests pool number ++ stepTests n old new (stateOf pool number) working u′ M)) refl
+  does-step old new highest working u′ M = go (first (poolTests pool number ++ stepTests n old new (stateOf pool number) highest working u′ M)) refl
     where
       n : ℕ
       n = slotOf (pool .table) number .segments
 
-      go : (t : Finding) → first (poolTests pool number ++ stepTests n old new (stateOf pool number) working u′ M) ≡ t → Does pool (stepping number old new working u′ M)
+      go : (t : Finding) → first (poolTests pool number ++ stepTests n old new (stateOf pool number) highest working u′ M) ≡ t → Does pool (stepping number old new highest working u′ M)
       go passes e =
           let clear = passed-18 pool number _ e in
-          Does.changes (rw e) (rw e (state-changed clear (step old (record { count = n; columns = new }) working u′ M)
-          (stepState n old new (stateOf pool number) working u′ M) (step-own n new (stateOf pool number) (lists clear) old working u′ M) refl))
+          Does.changes (rw e) (rw e (state-changed clear (step old (record { count = n; columns = new }) highest working u′ M)
+          (stepState n old new (stateOf pool number) highest working u′ M) (step-own n new (stateOf pool number) (lists clear) old highest working u′ M) refl))
       go (fails k place) e = Does.refuses (rw e) (rw e)
 
   -- what a report does
@@ -124,20 +124,20 @@ module _ (pool : Pool) (number : ℕ) (sound : Sound pool) where
       go true e = Does.refuses (rw e) (rw e)
 
   -- what an opening does
-  does-open : (sheet : List ℕ) (r records : ℕ) (columns : Columns) (u : ℕ) → Does pool (opening number sheet r records columns u)
+  does-open : (sheet : List ℕ) (r records : ℕ) (columns : Columns) (highest : List ℕ) (u : ℕ) → Does pool (opening number sheet r records columns highest u)
   unfolding poolAccepts afterCall poolOpen openAnswer
-  does-open sheet r records columns u = go (first (openTests sheet r records columns pool number u)) refl
+  does-open sheet r records columns highest u = go (first (openTests sheet r records columns pool number highest u)) refl
     where
-      go : (t : Finding) → first (openTests sheet r records columns pool number u) ≡ t → Does pool (opening number sheet r records columns u)
+      go : (t : Finding) → first (openTests sheet r records columns pool number highest u) ≡ t → Does pool (opening number sheet r records columns highest u)
       go passes e =
-          let b = begins pool number sheet r records columns u (opening-passed pool number sheet r records columns u e) sound in
+          let b = begins pool number sheet r records columns highest u (opening-passed pool number sheet r records columns highest u e) sound in
           Does.changes (rw e) (rw e (record { sound = b .sound; others = b .others; own = λ x f. b .follows }))
       go (fails k place) e = Does.refuses (rw e) (rw e)
 
 -- every call
 pub does : (pool : Pool) (call : PoolCall) → Sound pool → Does pool call
-does pool (opening number sheet r records columns u) sound = does-open pool number sound sheet r records columns u
-does pool (starting number columns u) sound = does-start pool number sound columns u
-does pool (stepping number old new working u′ M) sound = does-step pool number sound old new working u′ M
+does pool (opening number sheet r records columns highest u) sound = does-open pool number sound sheet r records columns highest u
+does pool (starting number columns highest u) sound = does-start pool number sound columns highest u
+does pool (stepping number old new highest working u′ M) sound = does-step pool number sound old new highest working u′ M
 does pool (reporting number columns segment) sound = does-report pool number sound columns segment
 does pool (closing number) sound = does-close pool number sound

@@ -9,16 +9,20 @@ use borrow.Author.Tests.{eqb-true, eqb-false}
 use lib.Dec.{eqb}
 use Rattle.model.specs.Pool.{Pool}
 use Rattle.model.specs.PoolRuns.{PoolCall, named, poolAccepts, afterCall, runPool, Own, ownAfter, ownSince}
-use Rattle.model.specs.PoolClaim.{Sharing}
+use Rattle.model.specs.PoolClaim.{NoneOpen, Sharing}
 use Rattle.stretches.proofs.Pools.{none-sound, Sound}
 use Rattle.sharing.proofs.Opens.{opens-alone}
 use Rattle.sharing.proofs.Follows.{Follows, follows-beside, shown}
 use Rattle.sharing.proofs.Calls.{Changed, Does, does}
 
 -- a sound pool in which the river with this number follows its own calls
-record Going (pool : Pool) (number : ℕ) (own : Option Own) : Type 0 where
-  sound : Sound pool
-  follows : Follows pool number own
+pub record Going (pool : Pool) (number : ℕ) (own : Option Own) : Type 0 where
+  pub sound : Sound pool
+  pub follows : Follows pool number own
+
+-- with none open it has none
+pub none-going : (pool : Pool) (number : ℕ) → NoneOpen pool → Going pool number none
+none-going pool number r = record { sound = none-sound pool r; follows = λ h l. r .closed (number - 1) (omega arith) }
 
 -- an accepted call, of this number or of another
 changed-going : (before later : Pool) (call number : ℕ) (more : Option Own → Option Own) (own : Option Own) (t : Bool) → eqb call number ≡ t →
@@ -30,7 +34,7 @@ changed-going before later call number more own false e c f =
     record { sound = c .sound; follows = follows-beside own (λ h l. c .others number h l (λ q. eqb-false call number e (sym q))) f }
 
 -- any call
-call-going : (pool : Pool) (call : PoolCall) (number : ℕ) (own : Option Own) → Going pool number own →
+pub call-going : (pool : Pool) (call : PoolCall) (number : ℕ) (own : Option Own) → Going pool number own →
     Going (afterCall pool call) number (cond (eqb (named call) number && poolAccepts pool call) (ownAfter pool call own) own)
 call-going pool call number own g = go (does pool call (g .sound))
   where
@@ -50,6 +54,5 @@ run-going pool (call ∷ calls) number own g = run-going (afterCall pool call) c
 -- the claim
 pub sharing : Sharing
 sharing before none-open calls number =
-    let begin : Going before number none = record { sound = none-sound before none-open; follows = λ h l. none-open .closed (number - 1) (omega arith) } in
-    let g = run-going before calls number none begin in
+    let g = run-going before calls number none (none-going before number none-open) in
     (shown (runPool before calls) number (g .sound) (ownSince number before calls none) (g .follows), opens-alone (runPool before calls) number (g .sound .table))

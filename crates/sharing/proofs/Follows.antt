@@ -1,5 +1,5 @@
 -- How a river in a pool follows its own calls, and what the claim says of one that does.
-use mathlib.Core.Path.{_≡_, sym, ap, ap₂, _∙_}
+use mathlib.Core.Path.{_≡_, sym, ap, ap₂, subst, _∙_}
 use mathlib.Core.Bool.{true, false, true≢false}
 use mathlib.Core.List.{List}
 use mathlib.Core.Option.{Option, none, some}
@@ -11,28 +11,29 @@ use Rattle.lists.proofs.Stretch.{length-stretch}
 use Rattle.model.specs.Ranges.{mostRivers}
 use Rattle.model.specs.Sheet.{Reach}
 use Rattle.model.specs.State.{Columns, State}
-use Rattle.model.specs.Refusals.{accepted}
+use Rattle.model.specs.Refusals.{accepted, passes, first}
 use Rattle.model.specs.Load.{loaded, loadAnswer}
-use Rattle.model.specs.Calls.{startAnswer, stepAnswer, stepWorking, reportAnswer}
+use Rattle.model.specs.Calls.{startAnswer, startHighest, stepAnswer, stepHighest, stepWorking, reportAnswer}
+use Rattle.model.specs.Search.{SearchAnswer}
 use Rattle.model.specs.Runs.{Lent, Call, start, accepts, after, run, AsLoaded, Fed}
-use Rattle.model.specs.Pool.{isOpen, slotOf, Pool, stateOf, numberFault, sharedFault, closeFinding}
+use Rattle.model.specs.Pool.{isOpen, slotOf, Pool, stateOf, numberFault, sharedFault, poolTests, closeFinding}
 use Rattle.model.specs.PoolRuns.{Own, ownCalls, withCall}
 use Rattle.model.specs.PoolClaim.{OwnLists, AsAlone, Shown}
 use Rattle.drift.proofs.Claim.{demand3}
 use Rattle.stretches.proofs.Tables.{fault-apart, clear-number}
 use Rattle.stretches.proofs.Pools.{long-shared, Sound, Beside}
 use Rattle.sharing.proofs.Lengths.{run-last}
-use Rattle.stretches.proofs.Answers.{tests-pass, start-alone, step-alone, works-alone, report-alone}
+use Rattle.stretches.proofs.Answers.{tests-pass, start-alone, start-highest-alone, step-alone, step-highest-alone, works-alone, report-alone, search-alone}
 use Rattle.sharing.proofs.Answers.{not-open}
 
 -- how a river began: a loading of its sheet was accepted, and a start on the lists that it left is, into any lists of its own
-pub record Begun (sheet : List ℕ) (lent : Lent) (u : ℕ) : Type 0 where
+pub record Begun (sheet : List ℕ) (lent : Lent) (highest : List ℕ) (u : ℕ) : Type 0 where
   pub flow : ℕ
   pub records : List Reach
   pub columns : Columns
   pub loading : loadAnswer sheet flow (length records) columns ≡ accepted (loaded sheet)
   pub lists : AsLoaded sheet lent
-  pub starts : (before : State) → OwnLists (lent .count) before → T (accepts before (start lent u))
+  pub starts : (before : State) → OwnLists (lent .count) before → T (accepts before (start lent highest u))
 
 -- an open river whose state is the one that its own calls give, made alone
 pub record Following (pool : Pool) (number : ℕ) (own : Own) : Type 0 where
@@ -40,7 +41,7 @@ pub record Following (pool : Pool) (number : ℕ) (own : Own) : Type 0 where
   pub most : number ≤ mostRivers
   pub opened : isOpen (slotOf (pool .table) number) ≡ true
   pub segments : slotOf (pool .table) number .segments ≡ own .lent .count
-  pub begun : Begun (own .sheet) (own .lent) (own .u)
+  pub begun : Begun (own .sheet) (own .lent) (own .highest) (own .u)
   pub figures : (before : State) → OwnLists (own .lent .count) before → stateOf pool number ≡ run before (ownCalls own)
 
 -- the river with this number, by its own calls
@@ -80,7 +81,7 @@ follows-call before later number call (some own) h l o p n e f = record {
   begun = f .begun;
   figures = λ state lists.
       e ∙ ap (λ s. after s call) (f .figures state lists)
-      ∙ sym (run-last (after state (start (own .lent) (own .u))) (own .since) call);
+      ∙ sym (run-last (after state (start (own .lent) (own .highest) (own .u))) (own .since) call);
 }
 
 -- ---- what the claim says of it
@@ -109,18 +110,31 @@ module _ (pool : Pool) (number : ℕ) (sound : Sound pool) where
     shared : sharedFault pool ≡ false
     shared = let place : number - 1 < mostRivers = omega (arith, f .least, f .most) in long-shared pool (sound .long (number - 1) place (f .opened))
 
+    -- so the pool's own tests pass
+    pass : first (poolTests pool number) ≡ passes
+    pass = tests-pass pool number clear shared
+
     -- it is as the same calls make it alone
     as-alone : (before : State) → OwnLists (own .lent .count) before → AsAlone pool number own before
     as-alone before lists =
         let state : stateOf pool number ≡ run before (ownCalls own) = f .figures before lists in
         record {
           figures = state;
-          starts = λ columns u. start-alone pool number (tests-pass pool number clear shared) columns u ∙ ap₂ (λ n s. startAnswer n columns s u) (f .segments) state;
-          steps = λ old new working u′ M. step-alone pool number (tests-pass pool number clear shared) old new working u′ M ∙ ap₂ (λ n s. stepAnswer n old new s working u′ M) (f .segments) state;
-          works = λ old new working u′ M. works-alone pool number (tests-pass pool number clear shared) old new working u′ M ∙ ap₂ (λ n s. stepWorking n old new s working u′ M) (f .segments) state;
-          reports = λ columns segment. report-alone pool number (tests-pass pool number clear shared) columns segment ∙ ap₂ (λ n s. reportAnswer n columns s segment) (f .segments) state;
+          starts = λ columns highest u. start-alone pool number pass columns highest u ∙ ap₂ (λ n s. startAnswer n columns s highest u) (f .segments) state;
+          startsHighest = λ columns highest u.
+              start-highest-alone pool number pass columns highest u ∙ ap₂ (λ n s. startHighest n columns s highest u) (f .segments) state;
+          steps = λ old new highest working u′ M.
+              step-alone pool number pass old new highest working u′ M ∙ ap₂ (λ n s. stepAnswer n old new s highest working u′ M) (f .segments) state;
+          stepsHighest = λ old new highest working u′ M.
+              step-highest-alone pool number pass old new highest working u′ M ∙ ap₂ (λ n s. stepHighest n old new s highest working u′ M) (f .segments) state;
+          works = λ old new highest working u′ M.
+              works-alone pool number pass old new highest working u′ M ∙ ap₂ (λ n s. stepWorking n old new s highest working u′ M) (f .segments) state;
+          reports = λ columns segment. report-alone pool number pass columns segment ∙ ap₂ (λ n s. reportAnswer n columns s segment) (f .segments) state;
+          searches = λ highest limit answer s.
+              subst (λ (x : State). SearchAnswer (own .lent .count) (x .channel) highest limit answer) state
+              (subst (λ n. SearchAnswer n (stateOf pool number .channel) highest limit answer) (f .segments) (search-alone pool number pass highest limit answer s));
           demand3 = λ fed. let b = f .begun in
-              demand3 (own .sheet) (b .flow) (b .records) (b .columns) (loaded (own .sheet)) (b .loading) before (own .lent) (own .u) (own .since)
+              demand3 (own .sheet) (b .flow) (b .records) (b .columns) (loaded (own .sheet)) (b .loading) before (own .lent) (own .highest) (own .u) (own .since)
               (b .starts before lists) (Fed.more (λ a. b .lists) fed);
         }
 

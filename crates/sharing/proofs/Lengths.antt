@@ -41,7 +41,7 @@ length-finish (x ∷ xs) (f ∷ fs) [] e q = absurd (omega arith)
 length-finish (x ∷ xs) (f ∷ fs) (c ∷ cs) e q = ap suc (length-finish xs fs cs (omega arith) (omega arith))
 
 -- those of a step
-length-stepped : (u u′ : ℕ) (xs : List Pair) (fs : List Figures) → length fs ≡ length xs → length (stepped u u′ xs fs) ≡ length xs
+pub length-stepped : (u u′ : ℕ) (xs : List Pair) (fs : List Figures) → length fs ≡ length xs → length (stepped u u′ xs fs) ≡ length xs
 unfolding stepped downward
 length-stepped u u′ xs fs e =
     length-finish xs fs (up (downward u u′ xs fs)) e
@@ -84,18 +84,18 @@ own-written fs u steps n before many own = record {
 
 module _ (n : ℕ) (columns : Columns) (state : State) (own : OwnLists n state) where
   -- a start leaves lists of the same lengths
-  pub start-own : (u : ℕ) → OwnLists n (startState n columns state u)
+  pub start-own : (highest : List ℕ) (u : ℕ) → OwnLists n (startState n columns state highest u)
   unfolding startState
-  start-own u = go (startAnswer n columns state u)
+  start-own highest u = go (startAnswer n columns state highest u)
     where
       go : (o : Outcome River) → OwnLists n (stateAfterStart o n columns state)
       go (accepted v) = own-written _ _ _ n state (length-map (segmentsOf n columns) startFigures ∙ length-tab _ 0 n) own
       go (refused number place) = own
 
   -- and a step
-  pub step-own : (old : NumberSet) (working : Working) (u′ M : ℕ) → OwnLists n (stepState n old columns state working u′ M)
+  pub step-own : (old : NumberSet) (highest : List ℕ) (working : Working) (u′ M : ℕ) → OwnLists n (stepState n old columns state highest working u′ M)
   unfolding stepState
-  step-own old working u′ M = go (stepAnswer n old columns state working u′ M)
+  step-own old highest working u′ M = go (stepAnswer n old columns state highest working u′ M)
     where
       size : length (pairsOf n old columns) ≡ n
       size = length-tab _ 0 n

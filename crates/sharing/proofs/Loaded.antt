@@ -19,6 +19,7 @@ use Rattle.model.specs.HalfStep.{isLast, gOf, numbers, Segment, loadedSegment}
 use Rattle.model.specs.State.{Columns, columnLists, State, stateLists, loadedSegments, writeSegments}
 use Rattle.model.specs.Refusals.{nothing, reach, segment, Finding, passes, fails, testEach, first}
 use Rattle.model.specs.Load.{walk, sumFault, sheetTests, courseTests, riverTests, listTests}
+use Rattle.model.specs.Highest.{blocksFault}
 use Rattle.model.specs.Calls.{riverFault, numbersFault, segmentFault, startFault, startTests}
 use Rattle.model.specs.Runs.{LoadedFor}
 use Rattle.model.specs.PoolClaim.{OwnLists}
@@ -211,11 +212,11 @@ module _ (sheet : List ℕ) (r records : ℕ) (columns : Columns) (front : first
       let ok = right sheet (first-both (sheetTests sheet) _ front .0) in
       rw (le-ltb n 1 (ok .some), le-ltb mostSegments n (ok .most)) (lists-long before own)
 
-  -- a start on these lists and on any state of as many segments passes
-  pub start-passes : (before : State) → OwnLists (segmentCount sheet) before → (u : ℕ) → outside concentration u ≡ false →
-      first (startTests (segmentCount sheet) leftColumns before u) ≡ passes
+  -- a start on these lists, on any state of as many segments and on enough highest figures passes
+  pub start-passes : (before : State) → OwnLists (segmentCount sheet) before → (highest : List ℕ) → blocksFault (segmentCount sheet) highest ≡ false →
+      (u : ℕ) → outside concentration u ≡ false → first (startTests (segmentCount sheet) leftColumns before highest u) ≡ passes
   unfolding startTests
-  start-passes before own u e =
+  start-passes before own highest enough u e =
       let n = segmentCount sheet in
       let low = lowest-end (startFault n leftColumns) n start-clear in
-      rw (river-clear before own, each-passes 14 segment n (startFault n leftColumns) (omega (arith, low)), e)
+      rw (river-clear before own, enough, each-passes 14 segment n (startFault n leftColumns) (omega (arith, low)), e)

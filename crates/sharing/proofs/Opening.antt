@@ -1,16 +1,18 @@
 -- An accepted opening begins a river: its state is that of a start made alone on the lists that the loading left.
-use mathlib.Core.Path.{_≡_, sym, _∙_}
+use mathlib.Core.Path.{_≡_, sym, ap, _∙_}
 use mathlib.Core.List.{List, [], _∷_, map}
 use Prim.Native.Nat.{ℕ}
 use lib.Dec.{T}
 use lib.ListN.{length, replicate, length-map, length-replicate}
+use Rattle.lists.specs.Lists.{over}
 use Rattle.lists.proofs.Tab.{length-tab}
 use Rattle.model.specs.Sheet.{reachOf, segmentCount}
 use Rattle.model.specs.Equations.{Figures}
 use Rattle.model.specs.State.{Columns, State, loadedSegments, writeSegments}
 use Rattle.model.specs.Refusals.{passes, first, accepted}
 use Rattle.model.specs.Load.{riverTests, listTests, loadTests, loaded, loadAnswer}
-use Rattle.model.specs.Calls.{startFigures, startTests, startAnswer, startState}
+use Rattle.model.specs.Highest.{highestOf}
+use Rattle.model.specs.Calls.{startFigures, startTests, startAnswer, startState, startHighest}
 use Rattle.model.specs.Runs.{Lent, start, accepts, after, run}
 use Rattle.model.specs.Pool.{Pool, poolAfterOpen}
 use Rattle.model.specs.PoolRuns.{Own}
@@ -39,28 +41,36 @@ start-length sheet r part = length-map (map startFigures (loadedSegments sheet r
 abbrev startedState : List ℕ → (r u : ℕ) → State
 startedState sheet r u = started (startOf sheet r (λ f. f .c)) (startOf sheet r (λ f. f .z)) (startOf sheet r (λ f. f .w)) u
 
-module _ (pool : Pool) (number : ℕ) (sheet : List ℕ) (r records : ℕ) (columns : Columns) (u : ℕ) (p : Passed pool number sheet r records columns u) where
+module _ (pool : Pool) (number : ℕ) (sheet : List ℕ) (r records : ℕ) (columns : Columns) (highest : List ℕ) (u : ℕ)
+    (p : Passed pool number sheet r records columns highest u) where
   -- what the river is lent by its opening
   abbrev newLent : Lent
   newLent = record { count = segmentCount sheet; columns = writeSegments (loadedSegments sheet r) columns }
 
   -- its own calls
   abbrev newOwn : Own
-  newOwn = record { sheet = sheet; lent = newLent; u = u; since = [] }
+  newOwn = record { sheet = sheet; lent = newLent; highest = highest; u = u; since = [] }
 
   -- a start on them passes its tests
-  passed : (before : State) → OwnLists (segmentCount sheet) before → first (startTests (segmentCount sheet) (newLent .columns) before u) ≡ passes
-  passed before lists = start-passes sheet r records columns (p .front) (p .lists) before lists u (p .upstream)
+  pub passed : (before : State) → OwnLists (segmentCount sheet) before → first (startTests (segmentCount sheet) (newLent .columns) before highest u) ≡ passes
+  passed before lists = start-passes sheet r records columns (p .front) (p .lists) before lists highest (p .blocks) u (p .upstream)
 
   -- the start made alone
-  start-alone : (before : State) → OwnLists (segmentCount sheet) before → run before (start newLent u ∷ []) ≡ startedState sheet r u
+  start-alone : (before : State) → OwnLists (segmentCount sheet) before → run before (start newLent highest u ∷ []) ≡ startedState sheet r u
   unfolding run after startState startAnswer
   start-alone before lists =
       rw (passed before lists, left-loaded sheet r records columns (p .front) (p .lists) .segments)
       (write-all (map startFigures (loadedSegments sheet r)) u 0 (segmentCount sheet) before (start-many sheet r) lists)
 
+  -- it leaves the highest of the start figures
+  pub start-highest : (before : State) → OwnLists (segmentCount sheet) before →
+      startHighest (segmentCount sheet) (newLent .columns) before highest u ≡ over (highestOf (segmentCount sheet) (startOf sheet r (λ f. f .c))) highest
+  unfolding startHighest startAnswer run after
+  start-highest before lists =
+      rw (passed before lists) (ap (λ (s : State). over (highestOf (segmentCount sheet) (s .channel)) highest) (start-alone before lists))
+
   -- and is accepted
-  start-accepted : (before : State) → OwnLists (segmentCount sheet) before → T (accepts before (start newLent u))
+  start-accepted : (before : State) → OwnLists (segmentCount sheet) before → T (accepts before (start newLent highest u))
   unfolding accepts startAnswer
   start-accepted before lists = rw (passed before lists) tt
 
@@ -72,7 +82,7 @@ module _ (pool : Pool) (number : ℕ) (sheet : List ℕ) (r records : ℕ) (colu
       (first-rest (riverTests sheet) (listTests sheet r records columns) (p .front) ∙ p .lists))
 
   -- so the river has begun
-  begun : Begun sheet newLent u
+  begun : Begun sheet newLent highest u
   begun = record {
     flow = r;
     records = replicate records (reachOf (λ k. 0));

@@ -57,45 +57,45 @@ room-alone table number n e =
 
 -- ---- an opening
 
-module _ (pool : Pool) (number : ℕ) (sheet : List ℕ) (r records : ℕ) (columns : Columns) (u : ℕ) where
+module _ (pool : Pool) (number : ℕ) (sheet : List ℕ) (r records : ℕ) (columns : Columns) (highest : List ℕ) (u : ℕ) where
   -- where the tests up to 18 find the same as with no river open, the answer is the same
   same-answer : first (upTo18 (pool .table) number sheet) ≡ first (upTo18 noRivers number sheet) →
-      openAnswer sheet r records columns pool number u ≡ openAnswer sheet r records columns (vacated pool) number u
+      openAnswer sheet r records columns pool number highest u ≡ openAnswer sheet r records columns (vacated pool) number highest u
   unfolding openAnswer openTests sharedFault
   same-answer e =
       let tests = listTests sheet r records columns in
       let here = upTo18 (pool .table) number sheet in
       let there = upTo18 noRivers number sheet in
-      ap (λ t. answer t (loaded sheet)) (first-same (here ++ tests) (there ++ tests) (lastTests pool u) (first-same here there tests e))
+      ap (λ t. answer t (loaded sheet)) (first-same (here ++ tests) (there ++ tests) (lastTests pool (segmentCount sheet) highest u) (first-same here there tests e))
 
   -- where 17 refuses, it is the answer
-  no-room : first (upTo18 (pool .table) number sheet) ≡ fails 17 nothing → openAnswer sheet r records columns pool number u ≡ refused 17 nothing
+  no-room : first (upTo18 (pool .table) number sheet) ≡ fails 17 nothing → openAnswer sheet r records columns pool number highest u ≡ refused 17 nothing
   unfolding openAnswer openTests
   no-room e =
       let tests = listTests sheet r records columns in
       let here = upTo18 (pool .table) number sheet in
-      ap (λ t. answer t (loaded sheet)) (first-front (here ++ tests) (lastTests pool u) (first-front here tests e))
+      ap (λ t. answer t (loaded sheet)) (first-front (here ++ tests) (lastTests pool (segmentCount sheet) highest u) (first-front here tests e))
 
 -- where the table is right, 17 alone depends on the other rivers
 pub opens-alone : (pool : Pool) (number : ℕ) → tableFault (pool .table) ≡ false → OpensAlone pool number
-opens-alone pool number right sheet r records columns u = go (first (riverTests sheet)) refl
+opens-alone pool number right sheet r records columns highest u = go (first (riverTests sheet)) refl
   where
     n : ℕ
     n = segmentCount sheet
 
     room : first (riverTests sheet) ≡ passes → (t : Bool) → roomFault (pool .table) number n ≡ t →
-        (openAnswer sheet r records columns pool number u ≡ refused 17 nothing)
-        ⊎ (openAnswer sheet r records columns pool number u ≡ openAnswer sheet r records columns (vacated pool) number u)
-    room q true e = inl (no-room pool number sheet r records columns u (first-rest (riverTests sheet) (newTests (pool .table) number n) q ∙ rw e))
+        (openAnswer sheet r records columns pool number highest u ≡ refused 17 nothing)
+        ⊎ (openAnswer sheet r records columns pool number highest u ≡ openAnswer sheet r records columns (vacated pool) number highest u)
+    room q true e = inl (no-room pool number sheet r records columns highest u (first-rest (riverTests sheet) (newTests (pool .table) number n) q ∙ rw e))
     room q false e =
-        inr (same-answer pool number sheet r records columns u
+        inr (same-answer pool number sheet r records columns highest u
         (first-rest (riverTests sheet) (newTests (pool .table) number n) q ∙ (rw (e, right, room-alone (pool .table) number n e, none-at-fault))
         ∙ sym (first-rest (riverTests sheet) (newTests noRivers number n) q)))
 
     go : (t : Finding) → first (riverTests sheet) ≡ t →
-        (openAnswer sheet r records columns pool number u ≡ refused 17 nothing)
-        ⊎ (openAnswer sheet r records columns pool number u ≡ openAnswer sheet r records columns (vacated pool) number u)
+        (openAnswer sheet r records columns pool number highest u ≡ refused 17 nothing)
+        ⊎ (openAnswer sheet r records columns pool number highest u ≡ openAnswer sheet r records columns (vacated pool) number highest u)
     go passes q = room q (roomFault (pool .table) number n) refl
     go (fails k place) q =
-        inr (same-answer pool number sheet r records columns u
+        inr (same-answer pool number sheet r records columns highest u
         (first-front (riverTests sheet) (newTests (pool .table) number n) q ∙ sym (first-front (riverTests sheet) (newTests noRivers number n) q)))

@@ -9,18 +9,20 @@ ghost use Rattle.model.specs.Sheet.{dt, dx, rowStarts, rowConcentrations, gauge
 ghost use Rattle.model.specs.Ranges.{gaugeSection};
 ghost use Rattle.model.specs.Flow.{flowInForce};
 ghost use Rattle.model.specs.Load.{loadAnswer, loadColumns, loadRecords};
-ghost use Rattle.model.specs.Pool.{poolStartAnswer, poolStart, poolStepAnswer, poolStep, poolStepWorking, poolReportAnswer, closeFinding, closedTable, openAnswer, openColumns, openRecords, poolOpen};
-ghost use Rattle.model.specs.Calls.{startAnswer, startState, stepAnswer, stepState, stepWorking, reportAnswer};
+ghost use Rattle.model.specs.Pool.{poolStartAnswer, poolStart, poolStartHighest, poolStepAnswer, poolStep, poolStepHighest, poolStepWorking, poolReportAnswer, PoolSearchAnswer, closeFinding, closedTable, openAnswer, openColumns, openRecords, poolOpen, openHighest};
+ghost use Rattle.model.specs.Calls.{startAnswer, startState, startHighest, stepAnswer, stepState, stepHighest, stepWorking, reportAnswer};
+ghost use Rattle.model.specs.Search.{SearchAnswer};
 ghost use Rattle.model.specs.Upstream.{upstreamAnswer};
 ghost use Rattle.terms.specs.Says.{reachSays};
 ghost use Rattle.lists.specs.Lent.{entry, exit};
 ghost use Rattle.terms.specs.Lent.{set, columns, state, working, tableIn, pool};
 ghost use Rattle.sheet.specs.Rows.{rowListTest, rowListAfter};
 ghost use Rattle.otis.specs.Outcomes.{handed};
-ghost use Rattle.answers.specs.Answers.{foundBy, Told, loadedValues};
+ghost use Rattle.answers.specs.Answers.{foundBy, Told, loadedValues, SearchHanded};
 use answers::put_finding;
 use answers::put_load;
 use answers::put_report;
+use answers::put_search;
 use answers::put_start;
 use answers::put_step;
 use answers::put_upstream;
@@ -114,19 +116,22 @@ pub extern "C" fn yumbaqel_pool_open(
     channel: &mut [u32],
     storage: &mut [u32],
     sediment: &mut [u32],
+    highest: &mut [u32],
     table: &mut [u32; 40],
     u: u32,
 )
     ensures answer { λ _. ⌜ Told (foundBy (openAnswer (entry sheet) row (length (entry reaches))
-        (columns entry e g l a b k ks h m s cl cb kd start) (pool entry channel storage sediment table) river u)) (exit number) (exit kind) (exit place) ⌝ }
+        (columns entry e g l a b k ks h m s cl cb kd start) (pool entry channel storage sediment table) river (entry highest) u)) (exit number) (exit kind) (exit place) ⌝ }
     ensures values { λ _. ⌜ exit loaded ≡ handed (openAnswer (entry sheet) row (length (entry reaches))
-        (columns entry e g l a b k ks h m s cl cb kd start) (pool entry channel storage sediment table) river u) loadedValues (entry loaded) ⌝ }
+        (columns entry e g l a b k ks h m s cl cb kd start) (pool entry channel storage sediment table) river (entry highest) u) loadedValues (entry loaded) ⌝ }
     ensures lists { λ _. ⌜ columns exit e g l a b k ks h m s cl cb kd start ≡ openColumns (entry sheet) row (length (entry reaches))
-        (columns entry e g l a b k ks h m s cl cb kd start) (pool entry channel storage sediment table) river u ⌝ }
+        (columns entry e g l a b k ks h m s cl cb kd start) (pool entry channel storage sediment table) river (entry highest) u ⌝ }
     ensures pool { λ _. ⌜ pool exit channel storage sediment table ≡ poolOpen (entry sheet) row (length (entry reaches))
-        (columns entry e g l a b k ks h m s cl cb kd start) (pool entry channel storage sediment table) river u ⌝ }
+        (columns entry e g l a b k ks h m s cl cb kd start) (pool entry channel storage sediment table) river (entry highest) u ⌝ }
+    ensures highest { λ _. ⌜ exit highest ≡ openHighest (entry sheet) row (length (entry reaches))
+        (columns entry e g l a b k ks h m s cl cb kd start) (pool entry channel storage sediment table) river (entry highest) u ⌝ }
     ensures records { λ _. ⌜ map reachSays (exit reaches) ≡ openRecords (entry sheet) row (map reachSays (entry reaches))
-        (columns entry e g l a b k ks h m s cl cb kd start) (pool entry channel storage sediment table) river u ⌝ }
+        (columns entry e g l a b k ks h m s cl cb kd start) (pool entry channel storage sediment table) river (entry highest) u ⌝ }
 {
     let answer = opening::open(
         river,
@@ -150,13 +155,15 @@ pub extern "C" fn yumbaqel_pool_open(
         channel,
         storage,
         sediment,
+        highest,
         table,
         u,
     );
     put_load(answer, number, kind, place, loaded);
 }
 
-// A start of n segments: tests 13 and 14. `u` is U at step 0; `upstream` and `done` are the state's U and its count of steps.
+// A start of n segments: tests 13 and 14. `u` is U at step 0; `upstream` and `done` are the state's U and its count of steps. `highest` has the
+// highest channel figure of each sixteen segments begun when the call is over.
 #[no_mangle]
 pub extern "C" fn yumbaqel_start(
     number: &mut u32,
@@ -180,14 +187,17 @@ pub extern "C" fn yumbaqel_start(
     channel: &mut [u32],
     storage: &mut [u32],
     sediment: &mut [u32],
+    highest: &mut [u32],
     upstream: &mut u32,
     done: &mut u32,
     u: u32,
 )
     ensures answer { λ _. ⌜ Told (foundBy (startAnswer n (columns entry e g l a b k ks h m s cl cb kd start)
-        (state entry channel storage sediment (entry upstream) (entry done)) u)) (exit number) (exit kind) (exit place) ⌝ }
+        (state entry channel storage sediment (entry upstream) (entry done)) (entry highest) u)) (exit number) (exit kind) (exit place) ⌝ }
     ensures state { λ _. ⌜ state exit channel storage sediment (exit upstream) (exit done) ≡ startState n
-        (columns entry e g l a b k ks h m s cl cb kd start) (state entry channel storage sediment (entry upstream) (entry done)) u ⌝ }
+        (columns entry e g l a b k ks h m s cl cb kd start) (state entry channel storage sediment (entry upstream) (entry done)) (entry highest) u ⌝ }
+    ensures highest { λ _. ⌜ exit highest ≡ startHighest n (columns entry e g l a b k ks h m s cl cb kd start)
+        (state entry channel storage sediment (entry upstream) (entry done)) (entry highest) u ⌝ }
 {
     let answer = River::start(
         n,
@@ -208,13 +218,14 @@ pub extern "C" fn yumbaqel_start(
         channel,
         storage,
         sediment,
+        highest,
         u,
     );
     put_start(answer, number, kind, place, upstream, done);
 }
 
 // A step: tests 13 to 15. The ten lists with a 0 are the set of its old side, those behind them that of its new side; `u` is U' and `steps` is M;
-// p and y are working lists.
+// p and y are working lists, and `highest` is as in a start.
 #[no_mangle]
 pub extern "C" fn yumbaqel_step(
     number: &mut u32,
@@ -248,6 +259,7 @@ pub extern "C" fn yumbaqel_step(
     channel: &mut [u32],
     storage: &mut [u32],
     sediment: &mut [u32],
+    highest: &mut [u32],
     upstream: &mut u32,
     done: &mut u32,
     p: &mut [u64],
@@ -256,12 +268,14 @@ pub extern "C" fn yumbaqel_step(
     steps: u32,
 )
     ensures answer { λ _. ⌜ Told (foundBy (stepAnswer n (set entry e0 g0 l0 a0 b0 k0 ks0 h0 m0 s0) (columns entry e g l a b k ks h m s cl cb kd start)
-        (state entry channel storage sediment (entry upstream) (entry done)) (working entry p y) u steps)) (exit number) (exit kind) (exit place) ⌝ }
+        (state entry channel storage sediment (entry upstream) (entry done)) (entry highest) (working entry p y) u steps)) (exit number) (exit kind) (exit place) ⌝ }
     ensures state { λ _. ⌜ state exit channel storage sediment (exit upstream) (exit done) ≡ stepState n (set entry e0 g0 l0 a0 b0 k0 ks0 h0 m0 s0)
         (columns entry e g l a b k ks h m s cl cb kd start) (state entry channel storage sediment (entry upstream) (entry done))
-        (working entry p y) u steps ⌝ }
+        (entry highest) (working entry p y) u steps ⌝ }
+    ensures highest { λ _. ⌜ exit highest ≡ stepHighest n (set entry e0 g0 l0 a0 b0 k0 ks0 h0 m0 s0) (columns entry e g l a b k ks h m s cl cb kd start)
+        (state entry channel storage sediment (entry upstream) (entry done)) (entry highest) (working entry p y) u steps ⌝ }
     ensures working { λ _. ⌜ working exit p y ≡ stepWorking n (set entry e0 g0 l0 a0 b0 k0 ks0 h0 m0 s0) (columns entry e g l a b k ks h m s cl cb kd start)
-        (state entry channel storage sediment (entry upstream) (entry done)) (working entry p y) u steps ⌝ }
+        (state entry channel storage sediment (entry upstream) (entry done)) (entry highest) (working entry p y) u steps ⌝ }
 {
     let river = River {
         upstream: *upstream,
@@ -296,6 +310,7 @@ pub extern "C" fn yumbaqel_step(
         channel,
         storage,
         sediment,
+        highest,
         p,
         y,
         u,
@@ -372,6 +387,24 @@ pub extern "C" fn yumbaqel_report(
     put_report(answer, number, kind, place, c, z, kdw);
 }
 
+// Is any of the river above the limit? 13 alone. `segment` is 0 for none, else the number of a segment that is; which one is left open.
+#[no_mangle]
+pub extern "C" fn yumbaqel_search(
+    number: &mut u32,
+    kind: &mut u32,
+    place: &mut u32,
+    segment: &mut u32,
+    n: u32,
+    channel: &[u32],
+    highest: &[u32],
+    limit: u32,
+)
+    ensures { λ _. ⌜ SearchHanded (SearchAnswer n (entry channel) (entry highest) limit) (exit number) (exit kind) (exit place) (entry segment) (exit segment) ⌝ }
+{
+    let answer = search::alone(n, channel, highest, limit);
+    put_search(answer, number, kind, place, segment);
+}
+
 // A start of the river that is open under this number: tests 18, 13 and 14. U and the count of steps done stand in its slot of the table.
 #[no_mangle]
 pub extern "C" fn yumbaqel_pool_start(
@@ -396,13 +429,16 @@ pub extern "C" fn yumbaqel_pool_start(
     channel: &mut [u32],
     storage: &mut [u32],
     sediment: &mut [u32],
+    highest: &mut [u32],
     table: &mut [u32; 40],
     u: u32,
 )
-    ensures answer { λ _. ⌜ Told (foundBy (poolStartAnswer (pool entry channel storage sediment table) river (columns entry e g l a b k ks h m s cl cb kd start) u))
+    ensures answer { λ _. ⌜ Told (foundBy (poolStartAnswer (pool entry channel storage sediment table) river (columns entry e g l a b k ks h m s cl cb kd start) (entry highest) u))
         (exit number) (exit kind) (exit place) ⌝ }
     ensures pool { λ _. ⌜ pool exit channel storage sediment table ≡ poolStart (pool entry channel storage sediment table) river
-        (columns entry e g l a b k ks h m s cl cb kd start) u ⌝ }
+        (columns entry e g l a b k ks h m s cl cb kd start) (entry highest) u ⌝ }
+    ensures highest { λ _. ⌜ exit highest ≡ poolStartHighest (pool entry channel storage sediment table) river
+        (columns entry e g l a b k ks h m s cl cb kd start) (entry highest) u ⌝ }
 {
     let answer = pool::start(
         river,
@@ -423,6 +459,7 @@ pub extern "C" fn yumbaqel_pool_start(
         channel,
         storage,
         sediment,
+        highest,
         table,
         u,
     );
@@ -463,6 +500,7 @@ pub extern "C" fn yumbaqel_pool_step(
     channel: &mut [u32],
     storage: &mut [u32],
     sediment: &mut [u32],
+    highest: &mut [u32],
     table: &mut [u32; 40],
     p: &mut [u64],
     y: &mut [u64],
@@ -470,11 +508,13 @@ pub extern "C" fn yumbaqel_pool_step(
     steps: u32,
 )
     ensures answer { λ _. ⌜ Told (foundBy (poolStepAnswer (pool entry channel storage sediment table) river (set entry e0 g0 l0 a0 b0 k0 ks0 h0 m0 s0)
-        (columns entry e g l a b k ks h m s cl cb kd start) (working entry p y) u steps)) (exit number) (exit kind) (exit place) ⌝ }
+        (columns entry e g l a b k ks h m s cl cb kd start) (entry highest) (working entry p y) u steps)) (exit number) (exit kind) (exit place) ⌝ }
     ensures pool { λ _. ⌜ pool exit channel storage sediment table ≡ poolStep (pool entry channel storage sediment table) river
-        (set entry e0 g0 l0 a0 b0 k0 ks0 h0 m0 s0) (columns entry e g l a b k ks h m s cl cb kd start) (working entry p y) u steps ⌝ }
+        (set entry e0 g0 l0 a0 b0 k0 ks0 h0 m0 s0) (columns entry e g l a b k ks h m s cl cb kd start) (entry highest) (working entry p y) u steps ⌝ }
+    ensures highest { λ _. ⌜ exit highest ≡ poolStepHighest (pool entry channel storage sediment table) river
+        (set entry e0 g0 l0 a0 b0 k0 ks0 h0 m0 s0) (columns entry e g l a b k ks h m s cl cb kd start) (entry highest) (working entry p y) u steps ⌝ }
     ensures working { λ _. ⌜ working exit p y ≡ poolStepWorking (pool entry channel storage sediment table) river
-        (set entry e0 g0 l0 a0 b0 k0 ks0 h0 m0 s0) (columns entry e g l a b k ks h m s cl cb kd start) (working entry p y) u steps ⌝ }
+        (set entry e0 g0 l0 a0 b0 k0 ks0 h0 m0 s0) (columns entry e g l a b k ks h m s cl cb kd start) (entry highest) (working entry p y) u steps ⌝ }
 {
     let answer = pool::step(
         river,
@@ -505,6 +545,7 @@ pub extern "C" fn yumbaqel_pool_step(
         channel,
         storage,
         sediment,
+        highest,
         table,
         p,
         y,
@@ -576,6 +617,26 @@ pub extern "C" fn yumbaqel_pool_report(
         segment,
     );
     put_report(answer, number, kind, place, c, z, kdw);
+}
+
+// The search of it: 18 and 13. The channel list is the one shared list that it is lent, `highest` the river's own.
+#[no_mangle]
+pub extern "C" fn yumbaqel_pool_search(
+    number: &mut u32,
+    kind: &mut u32,
+    place: &mut u32,
+    segment: &mut u32,
+    river: u32,
+    channel: &[u32],
+    highest: &[u32],
+    table: &[u32; 40],
+    limit: u32,
+)
+    ensures { λ _. ⌜ SearchHanded (PoolSearchAnswer (tableIn (entry table)) (entry channel) river (entry highest) limit) (exit number) (exit kind) (exit place)
+        (entry segment) (exit segment) ⌝ }
+{
+    let answer = search::on_pool(river, channel, highest, table, limit);
+    put_search(answer, number, kind, place, segment);
 }
 
 // A closing of it: test 18 alone. Its slot is free again, and so are its segments.
@@ -666,10 +727,10 @@ pub extern "C" fn yumbaqel_dx(sheet: &[u8]) -> u32
     sheet::fields::dx(sheet)
 }
 
-// The version of this interface, 2.2.0: the first number times 10,000, the second times 100 and the third.
+// The version of this interface, 3.0.0: the first number times 10,000, the second times 100 and the third.
 #[no_mangle]
 pub extern "C" fn yumbaqel_version() -> u32
-    ensures { λ r. ⌜ r ≡ 20200 ⌝ }
+    ensures { λ r. ⌜ r ≡ 30000 ⌝ }
 {
-    20200
+    30000
 }

@@ -5,8 +5,18 @@ use Rattle.yumbaqel.proofs.yumbaqel_pool_start.Tie as tie
 
 returns : tie.Need-returns
 returns c =
-    let left = c .before .before .before .before .before .before .before .before .before .before .before .start .ensures in
+    let left = c .before .before .before .before .before .before .before .before .before .before .before .before .before .start .ensures in
     (rw (c .before .before .before .before .start-finding .ensures, left .0) at (c .put-finding .ensures), left .1)
 
 pub yumbaqel-pool-start-spec : {M : Type 1} → statement M
-yumbaqel-pool-start-spec = tie.close (tie.spec (λ c κs. search needs) (λ c κs. search needs) (λ c κs. search needs) (λ c. c .before .before .before .before .before .before .before .before .before .before .channel .given) (λ c. c .before .before .before .before .before .before .before .before .storage .given) (λ c. c .before .before .before .before .before .before .sediment .given) returns)
+yumbaqel-pool-start-spec =
+    tie.close
+    (tie.spec
+    (λ c κs. search needs)
+    (λ c κs. search needs)
+    (λ c κs. search needs)
+    (λ c. c .before .before .before .before .before .before .before .before .before .before .before .before .channel .given)
+    (λ c. c .before .before .before .before .before .before .before .before .before .before .storage .given)
+    (λ c. c .before .before .before .before .before .before .before .before .sediment .given)
+    (λ c. c .before .before .before .before .before .before .highest .given)
+    returns)

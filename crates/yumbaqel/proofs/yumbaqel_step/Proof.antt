@@ -5,9 +5,9 @@ use Rattle.yumbaqel.proofs.yumbaqel_step.Tie as tie
 
 returns : tie.Need-returns
 returns c =
-    let outcome = c .before .before .before .before .before .before .before .before .before .before .before .before .before .before .before .before .step .ensures in
+    let outcome = c .before .before .before .before .before .before .before .before .before .before .before .before .before .before .before .before .before .before .step .ensures in
     let put = c .put-step .ensures in
-    (rw (outcome .answer) at (put .0), (rw (put .1 .0, put .1 .1) (outcome .state), outcome .working))
+    (rw (outcome .answer) at (put .0), (rw (put .1 .0, put .1 .1) (outcome .state), (outcome .highest, outcome .working)))
 
 pub yumbaqel-step-spec : {M : Type 1} → statement M
 yumbaqel-step-spec =
@@ -15,9 +15,10 @@ yumbaqel-step-spec =
     (tie.spec
     (λ c κs. search needs)
     (λ c κs. search needs)
-    (λ c. c .before .before .before .before .before .before .before .before .before .before .before .before .before .before .before .channel .given)
-    (λ c. c .before .before .before .before .before .before .before .before .before .before .before .before .before .storage .given)
-    (λ c. c .before .before .before .before .before .before .before .before .before .before .before .sediment .given)
+    (λ c. c .before .before .before .before .before .before .before .before .before .before .before .before .before .before .before .before .before .channel .given)
+    (λ c. c .before .before .before .before .before .before .before .before .before .before .before .before .before .before .before .storage .given)
+    (λ c. c .before .before .before .before .before .before .before .before .before .before .before .before .before .sediment .given)
+    (λ c. c .before .before .before .before .before .before .before .before .before .before .before .highest .given)
     (λ c. c .before .before .before .before .before .before .before .before .before .p .given)
     (λ c. c .before .before .before .before .before .before .before .y .given)
     returns)

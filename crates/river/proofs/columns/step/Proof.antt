@@ -85,6 +85,7 @@ step-spec =
     (λ c. omega (arith, c .before .before .before .before .before .before .before .before .before .before .before .before .before .before .before .before .before .before .before .before .before .before .before .if2 .left))
     (λ c κs. search needs)
     (λ c κs. search needs)
+    (λ c. c .before .before .before .before .before .before .before .before .before .before .before .before .channel .given)
     (λ c. search needs)
     (λ c. search needs)
     (λ c. search needs)

@@ -1,0 +1,62 @@
+-- A search by blocks: what is known before a segment, and how a turn of each loop adds to it.
+use mathlib.Core.Path.{_≡_, refl, sym, _∙_}
+use mathlib.Core.List.{List}
+use mathlib.Core.Logic.{⊎-elim}
+use mathlib.Core.Option.{none, some, Option·some-injective, Option·none-ne-some, Option·some-ne-none}
+use Prim.Native.Nat.{ℕ, _+_, _*_, _/_, _≤_, _<_}
+use native.Mathlib.Numerals.{add-one}
+use native.Mathlib.Omega.{arith}
+use lib.ListN.{getD}
+use Rattle.lists.proofs.Stretch.{lt-or-ge}
+use Rattle.model.specs.Search.{Above, NoneAbove, Finds}
+
+-- none of the first s segments is above in a block that is
+pub record NoneBelow (n : ℕ) (channel highest : List ℕ) (limit s : ℕ) : Type 0 where
+  pub none : (i : ℕ) → i < s → Above n channel highest limit i → ⊥
+
+module _ {n : ℕ} {channel highest : List ℕ} {limit : ℕ} where
+  pub none-start : NoneBelow n channel highest limit 0
+  none-start = record { none = λ i h x. omega arith }
+
+  -- segment i of block b is
+  pub hit : (b : ℕ) {from i : ℕ} → from ≡ b * 16 → limit < getD highest b 0 → from ≤ i → i < from + 16 → i < n → limit < getD channel i 0 →
+      Above n channel highest limit i
+  hit b {from} {i} e high low less inside above =
+      let q : b ≡ i / 16 = omega arith in record { inside = inside; segment = above; block = rw q at high }
+
+  -- segment i is not above
+  pub miss : {i : ℕ} → NoneBelow n channel highest limit i → getD channel i 0 ≤ limit → NoneBelow n channel highest limit (i + 1)
+  miss {i} r h = record {
+    none = λ k l x.
+        ⊎-elim (λ less. r .none k less x) (λ more. let q : k ≡ i = omega arith in omega (arith, rw q at (x .segment))) (lt-or-ge k i);
+  }
+
+  -- the block is searched: behind its last segment, or behind the river's
+  pub end-block : {i to : ℕ} → NoneBelow n channel highest limit i → to ≤ i → NoneBelow n channel highest limit to
+  end-block r h = record { none = λ k l x. r .none k (omega arith) x }
+
+  pub end-river : {i : ℕ} → NoneBelow n channel highest limit i → n ≤ i → NoneAbove n channel highest limit
+  end-river r h = λ k x. r .none k (omega (arith, x .inside)) x
+
+  -- where there is none at all
+  pub none-to : (to : ℕ) → NoneAbove n channel highest limit → NoneBelow n channel highest limit to
+  none-to to h = record { none = λ k l x. h k x }
+
+  -- block b is not above, and is not entered
+  pub skip : (b : ℕ) {from : ℕ} → from ≡ b * 16 → getD highest b 0 ≤ limit → NoneBelow n channel highest limit from → NoneBelow n channel highest limit (from + 16)
+  skip b {from} e low r = record {
+    none = λ k l x.
+        ⊎-elim (λ less. r .none k less x) (λ more. let q : k / 16 ≡ b = omega arith in omega (arith, rw q at (x .block))) (lt-or-ge k from);
+  }
+
+  -- ---- what is found
+
+  pub finds-none : NoneAbove n channel highest limit → Finds n channel highest limit none
+  finds-none h = record { noneIf = λ h. refl; noneOnlyIf = λ e. h; choice = λ number e. absurd (Option·none-ne-some number e) }
+
+  pub finds-some : {i number : ℕ} → number ≡ i + 1 → Above n channel highest limit i → Finds n channel highest limit (some number)
+  finds-some {i} {number} e x = record {
+    noneIf = λ h. absurd (h i x);
+    noneOnlyIf = λ q. absurd (Option·some-ne-none number q);
+    choice = λ m q. (i, sym (Option·some-injective number m q) ∙ e ∙ add-one i, x);
+  }

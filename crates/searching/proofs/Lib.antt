@@ -1,0 +1,4 @@
+pub mod Tells
+pub mod Left
+pub mod Claim
+pub mod PoolClaim
