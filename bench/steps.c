@@ -1,5 +1,6 @@
 /* The proved step beside the one in C, called in turn on the same river: a sheet with a flow row on standard input, times on standard
-   output; first with one set on both sides, then with the two sets of the step at which the row begins to hold. */
+   output; first with one set on both sides, then with the two sets of the step at which the row begins to hold. With -DAPART the lists of
+   both have room for a cache line more than the river, so that they do not lie a multiple of 4,096 bytes apart. */
 #include <stdio.h>
 #include <stdlib.h>
 #include <string.h>
@@ -19,8 +20,8 @@ static double seconds(void) {
     return (double)now.tv_sec + 1e-9 * (double)now.tv_nsec;
 }
 
-static uint32_t library_words[YUMBAQEL_WORDS(SEGMENTS)], library_set_words[YUMBAQEL_SET_WORDS(SEGMENTS)];
-static uint64_t library_wide_words[YUMBAQEL_WIDE_WORDS(SEGMENTS)];
+static uint32_t library_words[YUMBAQEL_WORDS(ROOM)], library_set_words[YUMBAQEL_SET_WORDS(ROOM)];
+static uint64_t library_wide_words[YUMBAQEL_WIDE_WORDS(ROOM)];
 static struct yumbaqel_reach reaches[YUMBAQEL_MOST_REACHES];
 static struct yumbaqel_river river;
 
@@ -82,8 +83,8 @@ static void compare(const char *title, int side, u32 n, u32 u) {
 
 int main(void) {
     size_t got = fread(sheet, 1, sizeof sheet, stdin);
-    yumbaqel_river_lend(&river, SEGMENTS, library_words, library_wide_words);
-    yumbaqel_river_lend_set(&river, SEGMENTS, library_set_words);
+    yumbaqel_river_lend(&river, ROOM, library_words, library_wide_words);
+    yumbaqel_river_lend_set(&river, ROOM, library_set_words);
     if (yumbaqel_river_load(&river, sheet, got, reaches, YUMBAQEL_MOST_REACHES).number != 0)
         fail("the sheet is refused");
     if (yumbaqel_river_load_flow(&river, 1, 0, reaches, YUMBAQEL_MOST_REACHES).number != 0)

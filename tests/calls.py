@@ -320,6 +320,7 @@ class Run(Caller):
         self.shelf.add("upstream", [draw_word(rng)])
         self.shelf.add("done", [draw_word(rng)])
         self.lend_pair(0, 0)
+        self.spoiling = random.Random(self.n)
 
     # sets: as the library loads them
 
@@ -396,7 +397,19 @@ class Run(Caller):
                           self.shelf.buffers["upstream"], self.shelf.buffers["done"], U32(u))
         return self.settle("start", refusal, f"n {n}, U {u}, told {told}")
 
+    def spoil_p(self) -> None:
+        """Half of the p that a step finds, and may try, are not those of the step before: they lie beside them, or so far
+        off that the product with a power of two is the same in 64 bits, or are of any size."""
+        rng, words = self.spoiling, self.shelf.content["p"]
+        for at, p in enumerate(words):
+            if rng.random() < 0.5:
+                found = rng.choice((p + 1, p - 1, p + 2 ** 33, p + 2 ** 34, 0, ONE_WHOLE, ONE_WHOLE + 1, rng.getrandbits(64)))
+                words[at] = found % 2 ** 64
+        self.shelf.put("p", words)
+
     def step(self, n: int, u: int, steps: int, told: Told) -> bool:
+        if self.spoiling.random() < 0.3:
+            self.spoil_p()
         lent = self.lent(told)
         self.dirty()
         refusal = None

@@ -9,42 +9,46 @@ use otis::Step;
 use terms::Place;
 
 // The most segments that a sheet can have.
-pub const SEGMENTS: usize = River::SEGMENTS as usize;
+const SEGMENTS: usize = River::SEGMENTS as usize;
 
-// The highest channel figures of that many segments: one for each sixteen begun.
+// The entries of a list: one for each of the most segments, and a cache line's sixteen more. A step reads some thirty lists side by side, and
+// if they stood a multiple of 4,096 bytes apart, they would drive one another out of the cache.
+pub const ROOM: usize = SEGMENTS + 16;
+
+// The highest channel figures of the most segments: one for each sixteen begun.
 pub const BLOCKS: usize = (SEGMENTS + BLOCK - 1) / BLOCK;
 
-// The fourteen lists of a loading stand behind one another in one list, `columns`, each with room for the most segments: the ten half-step
-// numbers e to s, CL, CB, Kd and the start figures. So a river holds two sets in two lists, and the k-th list of one stands from Ck on.
+// The fourteen lists of a loading stand behind one another in one list, `columns`: the ten half-step numbers e to s, CL, CB, Kd and
+// the start figures. So a river holds two sets in two lists, and the k-th list of one stands from Ck on.
 const C0: usize = 0;
 
-const C1: usize = 1 * SEGMENTS;
+const C1: usize = 1 * ROOM;
 
-const C2: usize = 2 * SEGMENTS;
+const C2: usize = 2 * ROOM;
 
-const C3: usize = 3 * SEGMENTS;
+const C3: usize = 3 * ROOM;
 
-const C4: usize = 4 * SEGMENTS;
+const C4: usize = 4 * ROOM;
 
-const C5: usize = 5 * SEGMENTS;
+const C5: usize = 5 * ROOM;
 
-const C6: usize = 6 * SEGMENTS;
+const C6: usize = 6 * ROOM;
 
-const C7: usize = 7 * SEGMENTS;
+const C7: usize = 7 * ROOM;
 
-const C8: usize = 8 * SEGMENTS;
+const C8: usize = 8 * ROOM;
 
-const C9: usize = 9 * SEGMENTS;
+const C9: usize = 9 * ROOM;
 
-const C10: usize = 10 * SEGMENTS;
+const C10: usize = 10 * ROOM;
 
-const C11: usize = 11 * SEGMENTS;
+const C11: usize = 11 * ROOM;
 
-const C12: usize = 12 * SEGMENTS;
+const C12: usize = 12 * ROOM;
 
-const C13: usize = 13 * SEGMENTS;
+const C13: usize = 13 * ROOM;
 
-pub const C14: usize = 14 * SEGMENTS;
+pub const C14: usize = 14 * ROOM;
 
 // A list over the columns from place k on, as far as they reach.
 fn put_list(list: &[u32], columns: &mut [u32], k: usize) {
@@ -97,20 +101,20 @@ fn put_lists(
 
 // A loading for this flow, into the columns.
 pub fn load(sheet: &[u8], flow: u32, columns: &mut [u32]) -> Load {
-    let mut e = [0u32; SEGMENTS];
-    let mut g = [0u32; SEGMENTS];
-    let mut l = [0u32; SEGMENTS];
-    let mut a = [0u32; SEGMENTS];
-    let mut b = [0u32; SEGMENTS];
-    let mut k = [0u32; SEGMENTS];
-    let mut ks = [0u32; SEGMENTS];
-    let mut h = [0u32; SEGMENTS];
-    let mut m = [0u32; SEGMENTS];
-    let mut s = [0u32; SEGMENTS];
-    let mut cl = [0u32; SEGMENTS];
-    let mut cb = [0u32; SEGMENTS];
-    let mut kd = [0u32; SEGMENTS];
-    let mut start = [0u32; SEGMENTS];
+    let mut e = [0u32; ROOM];
+    let mut g = [0u32; ROOM];
+    let mut l = [0u32; ROOM];
+    let mut a = [0u32; ROOM];
+    let mut b = [0u32; ROOM];
+    let mut k = [0u32; ROOM];
+    let mut ks = [0u32; ROOM];
+    let mut h = [0u32; ROOM];
+    let mut m = [0u32; ROOM];
+    let mut s = [0u32; ROOM];
+    let mut cl = [0u32; ROOM];
+    let mut cb = [0u32; ROOM];
+    let mut kd = [0u32; ROOM];
+    let mut start = [0u32; ROOM];
     let answer = load_lists(
         sheet,
         flow,

@@ -6,7 +6,7 @@ use boundary::Upstream;
 use boundary::rows::upstream;
 use columns::BLOCKS;
 use columns::C14;
-use columns::SEGMENTS;
+use columns::ROOM;
 use columns::copy_columns;
 use columns::keep_flow;
 use columns::load;
@@ -191,12 +191,12 @@ fn print_listing(sheet: &[u8], loaded: Loaded, columns: &mut [u32]) {
     copy_rows(sheet, &mut starts, &mut concentrations);
     let mut old = [0u32; C14];
     copy_columns(&columns[..], &mut old);
-    let mut channel = [0u32; SEGMENTS];
-    let mut storage = [0u32; SEGMENTS];
-    let mut sediment = [0u32; SEGMENTS];
+    let mut channel = [0u32; ROOM];
+    let mut storage = [0u32; ROOM];
+    let mut sediment = [0u32; ROOM];
     let mut highest = [0u32; BLOCKS];
-    let mut p = [0u64; SEGMENTS];
-    let mut y = [0u64; SEGMENTS];
+    let mut p = [0u64; ROOM];
+    let mut y = [0u64; ROOM];
     let mut buffer = io::large_buffer();
     let u = upstream_at(
         &starts,

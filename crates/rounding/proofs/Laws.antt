@@ -51,6 +51,14 @@ nearest-ge n d q h k =
     let l : q < suc (nearest n d) = lt-of-mul-lt-mul-left d (omega (arith, rounds n d h)) in
     omega arith
 
+-- a whole quotient is left as it is
+pub nearest-whole : (d q : ℕ) → 0 < d → nearest (d * q) d ≡ q
+nearest-whole d q h = omega (arith, nearest-le (d * q) d q h (omega arith), nearest-ge (d * q) d q h (omega arith))
+
+-- nothing divided is nothing
+pub nearest-none : (d : ℕ) → 0 < d → nearest 0 d ≡ 0
+nearest-none d h = omega (arith, nearest-le 0 d 0 h (omega arith))
+
 -- monotony: what is larger rounds to no less
 pub nearest-mono : (m n d : ℕ) → 0 < d → m ≤ n → nearest m d ≤ nearest n d
 unfolding nearest

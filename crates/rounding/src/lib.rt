@@ -8,6 +8,9 @@ pub mod signed;
 // One whole, 2^30: the S of document 01.
 pub const WHOLE: u64 = 1 << 30;
 
+// Half of one whole.
+const HALF: u64 = WHOLE / 2;
+
 // One part above one whole, which stands for all that is more than one whole.
 const ABOVE: u32 = (WHOLE + 1) as u32;
 
@@ -35,7 +38,8 @@ fn doubled(q: u64, r: u64, d: u64) -> Split
     }
 }
 
-// The quotient to the nearest, from the whole quotient and its remainder: the one place where a half goes up.
+// The quotient to the nearest, from the whole quotient and its remainder. A half goes up here, and in the two functions below that find a
+// quotient without dividing.
 fn rounded(q: u64, r: u64, d: u64) -> u64
     requires { ⌜ (r < d) × (0 < r → q + 1 < 2 ^ 64) ⌝ }
     ensures { λ v. ⌜ v ≡ nearest (q * d + r) d ⌝ }
@@ -43,12 +47,40 @@ fn rounded(q: u64, r: u64, d: u64) -> u64
     if r < d - r { q } else { q + 1 }
 }
 
-// n / d to the nearest.
+// n by one whole, to the nearest: one more than the halves of a whole in n, halved. That is two shifts.
+fn nearest_whole(n: u64) -> u64
+    ensures { λ v. ⌜ v ≡ nearest n S ⌝ }
+{
+    (n / HALF + 1) / 2
+}
+
+// n / d to the nearest. It divides where d is not one whole.
 pub fn nearest(n: u64, d: u64) -> u64
     requires { ⌜ 0 < d ⌝ }
     ensures { λ v. ⌜ v ≡ nearest n d ⌝ }
 {
+    if d == WHOLE {
+        return nearest_whole(n);
+    }
     rounded(n / d, n % d, d)
+}
+
+// The same, where the quotient may be known. The candidate is trusted for nothing: its product with d is held to n, and n is divided where
+// that fails.
+pub fn nearest_tried(n: u64, d: u64, candidate: u64) -> u64
+    requires { ⌜ (0 < d) × (d ≤ 2 * S) × (n ≤ 2 * (S * S)) ⌝ }
+    ensures { λ v. ⌜ v ≡ nearest n d ⌝ }
+{
+    if candidate <= WHOLE {
+        let product = candidate * d;
+        let up = n + d / 2;
+        if product <= up {
+            if up - product < d {
+                return candidate;
+            }
+        }
+    }
+    nearest(n, d)
 }
 
 // x parts, or one part above one whole where they are more than one whole.

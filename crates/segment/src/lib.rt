@@ -3,7 +3,7 @@ ghost use mathlib.Core.Path.{_≡_};
 ghost use Prim.Native.Nat.{_+_, _*_, _≤_};
 ghost use Rattle.rounding.specs.Nearest.{S, nearest};
 ghost use Rattle.model.specs.Ranges.{highest};
-ghost use Rattle.model.specs.Equations.{channelRight, storageRight, sedimentRight};
+ghost use Rattle.model.specs.Equations.{sumV, channelRight, storageRight, sedimentRight};
 ghost use Rattle.model.specs.Sweep.{P, N, F, R, rowOf, under, pass, clamp, newStorage, newSediment, newFigures};
 ghost use Rattle.terms.specs.Says.{numbersSay};
 ghost use Rattle.stability.specs.Accepted.{Sums};
@@ -30,10 +30,27 @@ pub struct Figures {
     pub w: u32,
 }
 
-// What the downward pass leaves of a segment.
+// What the downward pass leaves of a segment: p and y. Beside them are F's two quotients, of which nothing is promised: the segment below
+// tries them, as it mostly has the same numbers.
 pub struct Passed {
     pub p: u64,
     pub y: u64,
+    pub storage: u64,
+    pub sediment: u64,
+}
+
+// What storage or sediment adds to F and to R.
+struct Terms {
+    f: u64,
+    r: u64,
+}
+
+// F and R of a segment, and F's two quotients.
+struct Row {
+    f: u64,
+    r: u64,
+    storage: u64,
+    sediment: u64,
 }
 
 // (S−T)C + eCabove + gCbelow + aZ + sW + 2lCL with the old numbers, 2l being the old l plus the new.
@@ -86,46 +103,97 @@ fn n_of(x: Pair, f: Figures) -> u64
     rounding::nearest(sediment_right(x.old, f), WHOLE + (x.new.h as u64))
 }
 
-// F = S+e+g+l+k + a(S+ks+m)/(S+V) + sS/(S+h) of the new numbers.
-fn f_of(n: Numbers) -> u64
-    requires { ⌜ Sums (numbersSay n) ⌝ }
-    ensures { λ v. ⌜ v ≡ F (numbersSay n) ⌝ }
+// What storage adds to a row: a(S+ks+m)/(S+V) to F and aP to R, with the new numbers; nothing, and nothing is divided, without exchange.
+// `quotient` may be the one that F has, and is trusted for nothing.
+fn storage_terms(x: Pair, f: Figures, quotient: u64) -> Terms
+    requires { ⌜ FiguresReady (pairSays x) (figuresSay f) ⌝ }
+    ensures { λ v. ⌜ (v .f ≡ nearest (x .new .a * (S + x .new .ks + x .new .m)) (S + sumV (numbersSay (x .new))))
+        × (v .r ≡ x .new .a * P (pairSays x) (figuresSay f)) ⌝ }
 {
-    let storage = rounding::nearest(
-        (n.a as u64) * (WHOLE + (n.ks as u64) + (n.m as u64)),
-        WHOLE + n.sum_v(),
-    );
-    let sediment = rounding::nearest((n.s as u64) * WHOLE, WHOLE + (n.h as u64));
-    WHOLE + (n.e as u64) + (n.g as u64) + (n.l as u64) + (n.k as u64) + storage + sediment
+    if x.new.a == 0 {
+        return Terms { f: 0, r: 0 };
+    }
+    let a = x.new.a as u64;
+    Terms {
+        f: rounding::nearest_tried(
+            a * (WHOLE + (x.new.ks as u64) + (x.new.m as u64)),
+            WHOLE + x.new.sum_v(),
+            quotient,
+        ),
+        r: a * p_of(x, f),
+    }
 }
 
-// R: the channel's right side plus aP + sN with the new a and s.
-fn r_of(x: Pair, above: u32, below: u32, f: Figures) -> u64
+// What sediment adds to a row: sS/(S+h) to F and sN to R, with the new numbers; nothing without sorption. `quotient` is as above.
+fn sediment_terms(x: Pair, f: Figures, quotient: u64) -> Terms
+    requires { ⌜ FiguresReady (pairSays x) (figuresSay f) ⌝ }
+    ensures { λ v. ⌜ (v .f ≡ nearest (x .new .s * S) (S + x .new .h)) × (v .r ≡ x .new .s * N (pairSays x) (figuresSay f)) ⌝ }
+{
+    if x.new.s == 0 {
+        return Terms { f: 0, r: 0 };
+    }
+    let s = x.new.s as u64;
+    Terms {
+        f: rounding::nearest_tried(s * WHOLE, WHOLE + (x.new.h as u64), quotient),
+        r: s * n_of(x, f),
+    }
+}
+
+// F = S+e+g+l+k + a(S+ks+m)/(S+V) + sS/(S+h) of the new numbers, and R: the channel's right side plus aP + sN with the new a and s. F's
+// quotients are tried from those of the segment above.
+fn row_of(x: Pair, above: u32, below: u32, f: Figures, d: Passed) -> Row
     requires { ⌜ RowReady (pairSays x) (figuresSay f) above below ⌝ }
-    ensures { λ v. ⌜ v ≡ R (pairSays x) above below (figuresSay f) ⌝ }
+    ensures { λ v. ⌜ (v .f ≡ F (numbersSay (x .new))) × (v .r ≡ R (pairSays x) above below (figuresSay f)) ⌝ }
 {
     let right = channel_right(x.old, x.new, x.cl, above, below, f);
-    right + (x.new.a as u64) * p_of(x, f) + (x.new.s as u64) * n_of(x, f)
+    let storage = storage_terms(x, f, d.storage);
+    let sediment = sediment_terms(x, f, d.sediment);
+    let n = x.new;
+    Row {
+        f: WHOLE
+            + (n.e as u64)
+            + (n.g as u64)
+            + (n.l as u64)
+            + (n.k as u64)
+            + storage.f
+            + sediment.f,
+        r: right + storage.r + sediment.r,
+        storage: storage.f,
+        sediment: sediment.f,
+    }
 }
 
-// H, and with it p and y, from p and y above.
-fn pass(f: u64, r: u64, e: u32, g: u32, d: Passed) -> Passed
+// H, and with it p and y, from p and y above. p rests on the numbers alone: `p` may be what an earlier step found, and is trusted for
+// nothing. F's quotients are handed on.
+fn pass(f: u64, r: u64, e: u32, g: u32, storage: u64, sediment: u64, d: Passed, p: u64) -> Passed
     requires { ⌜ PassReady (row f r e g) (passedSays d) ⌝ }
     ensures { λ v. ⌜ passedSays v ≡ pass (under (passedSays d)) (row f r e g) ⌝ }
 {
     let h = f - rounding::nearest((e as u64) * d.p, WHOLE);
     Passed {
-        p: rounding::nearest((g as u64) * WHOLE, h),
+        p: rounding::nearest_tried((g as u64) * WHOLE, h, p),
         y: rounding::nearest(r + (e as u64) * d.y, h),
+        storage: storage,
+        sediment: sediment,
     }
 }
 
-// p and y of a segment, from p and y above.
-pub fn passed_down(x: Pair, above: u32, below: u32, f: Figures, d: Passed) -> Passed
+// p and y of a segment, from p and y above. `p` may be the new p; it and the quotients above are trusted for nothing.
+pub fn passed_down(x: Pair, above: u32, below: u32, f: Figures, d: Passed, p: u64) -> Passed
     requires { ⌜ SegmentReady (pairSays x) (figuresSay f) above below (passedSays d) ⌝ }
     ensures { λ v. ⌜ passedSays v ≡ pass (under (passedSays d)) (rowOf (pairSays x) above below (figuresSay f)) ⌝ }
 {
-    pass(f_of(x.new), r_of(x, above, below, f), x.new.e, x.new.g, d)
+    let row = row_of(x, above, below, f, d);
+    pass(
+        row.f,
+        row.r,
+        x.new.e,
+        x.new.g,
+        row.storage,
+        row.sediment,
+        d,
+        p,
+    )
 }
 
 // y + (p × C' below)/S
@@ -159,13 +227,16 @@ fn new_storage(x: Pair, f: Figures, c: u32) -> u32
     ) as u32
 }
 
-// W' = ((S−h)W + hC + hC')/(S+h): the old right side, the new h.
+// W' = ((S−h)W + hC + hC')/(S+h): the old right side, the new h. Without sorption on either side it is W.
 fn new_sediment(x: Pair, f: Figures, c: u32) -> u32
     requires { ⌜ FiguresReady (pairSays x) (figuresSay f) ⌝ }
     requires { ⌜ c ≤ highest ⌝ }
     ensures { λ v. ⌜ v ≡ newSediment (pairSays x) (figuresSay f) c ⌝ }
 {
     let h = x.new.h as u64;
+    if (x.old.h as u64) + h == 0 {
+        return f.w;
+    }
     rounding::nearest(sediment_right(x.old, f) + h * (c as u64), WHOLE + h) as u32
 }
 

@@ -64,7 +64,7 @@ fn pair_at(
     }
 }
 
-// The downward pass writes p and y alone.
+// The downward pass writes p and y alone. What stands in p is tried, and trusted for nothing: a step with the same new set left it there.
 fn downward(
     n: usize,
     u: u32,
@@ -107,6 +107,8 @@ fn downward(
     let mut d = Passed {
         p: 0,
         y: next as u64,
+        storage: 0,
+        sediment: 0,
     };
     let mut i: usize = 0;
     while i < n {
@@ -143,7 +145,7 @@ fn downward(
             z: storage[i],
             w: sediment[i],
         };
-        d = segment::passed_down(x, above, below, f, d);
+        d = segment::passed_down(x, above, below, f, d, p[i]);
         above = c;
         p[i] = d.p;
         y[i] = d.y;
@@ -219,7 +221,12 @@ fn upward(
             cl,
             cb,
         );
-        let d = Passed { p: p[i], y: y[i] };
+        let d = Passed {
+            p: p[i],
+            y: y[i],
+            storage: 0,
+            sediment: 0,
+        };
         below = segment::raised(d, below);
         let now = Figures {
             c: channel[i],

@@ -7,14 +7,12 @@ use Rattle.segment.proofs.passed_down.Tie as tie
 
 pass-requires : tie.Need-pass-requires
 unfolding rowOf
-pass-requires c κs = record { fit = rw (c .before .f-of .ensures, c .r-of .ensures) (ready-fit (c .before .before .pre .ready)); stable = c .before .before .pre .stable }
+pass-requires c κs =
+    record { fit = rw (c .row-of .ensures .0, c .row-of .ensures .1) (ready-fit (c .before .pre .ready)); stable = c .before .pre .stable }
 
 returns : tie.Need-returns
 unfolding rowOf
-returns c = rw (← (c .before .before .f-of .ensures), ← (c .before .r-of .ensures)) (c .pass .ensures)
+returns c = rw (← (c .before .row-of .ensures .0), ← (c .before .row-of .ensures .1)) (c .pass .ensures)
 
 pub passed-down-spec : {M : Type 1} → statement M
-passed-down-spec =
-    tie.close
-    (tie.spec
-    (λ c κs. search needs) (λ c κs. search needs) pass-requires returns)
+passed-down-spec = tie.close (tie.spec (λ c κs. search needs) pass-requires returns)

@@ -28,13 +28,13 @@ inside t = down-inside (start t .pre) (t .loop-test .taken) (t .before .loop .in
 
 passed-down-requires : tie.Need-passed-down-requires Inv-loop μ-loop
 passed-down-requires c κs =
-    let t = c .before .before .before .before .before in
-    down-ready (start t .pre) (t .loop-test .taken) (t .before .loop .inv) (c .before .before .before .before .pair-at .ensures) (c .before .before .channel-or-0 .ensures)
+    let t = c .before .before .before .before .before .before in
+    down-ready (start t .pre) (t .loop-test .taken) (t .before .loop .inv) (c .before .before .before .before .before .pair-at .ensures) (c .before .before .before .channel-or-0 .ensures)
 
 loop-again : tie.Need-loop-again Inv-loop μ-loop
 loop-again c =
-    let t = c .before .before .before .before .before .before in
-    down-turn (start t .pre) (t .loop-test .taken) (t .before .loop .inv) (c .before .before .before .before .before .pair-at .ensures) (c .before .before .before .channel-or-0 .ensures) (c .passed-down .ensures)
+    let t = c .before .before .before .before .before .before .before in
+    down-turn (start t .pre) (t .loop-test .taken) (t .before .loop .inv) (c .before .before .before .before .before .before .pair-at .ensures) (c .before .before .before .before .channel-or-0 .ensures) (c .passed-down .ensures)
 
 returns : tie.Need-returns Inv-loop μ-loop
 returns c = down-end (c .before .before .before .before .before .before .before .before .before .before .before .before .before .before .before .before .before .before .before .before .before .before .before .before .before .before .before .before .before .pre) (c .loop-test .left) (c .before .loop .inv)
@@ -54,10 +54,11 @@ downward-spec =
     (λ c. let t = c .before .before .before .before in omega (arith, t .loop-test .taken, start t .pre .figures .storage))
     (λ c. let t = c .before .before .before .before in omega (arith, t .loop-test .taken, start t .pre .pairs .few))
     (λ c. let t = c .before .before .before .before .before in omega (arith, t .loop-test .taken, start t .pre .figures .sediment))
-    passed-down-requires (λ c. omega (arith, inside (c .before .before .before .before .before .before)))
-    (λ c. omega (arith, inside (c .before .before .before .before .before .before)))
-    (λ c. omega (arith, inside (c .before .before .before .before .before .before)))
-    (λ c. omega (arith, inside (c .before .before .before .before .before .before)))
-    (λ c. omega (arith, inside (c .before .before .before .before .before .before)))
-    (λ c. let t = c .before .before .before .before .before .before in omega (arith, t .loop-test .taken)) loop-again
+    (λ c. omega (arith, inside (c .before .before .before .before .before))) (λ c. omega (arith, inside (c .before .before .before .before .before .before)))
+    passed-down-requires (λ c. omega (arith, inside (c .before .before .before .before .before .before .before)))
+    (λ c. omega (arith, inside (c .before .before .before .before .before .before .before)))
+    (λ c. omega (arith, inside (c .before .before .before .before .before .before .before)))
+    (λ c. omega (arith, inside (c .before .before .before .before .before .before .before)))
+    (λ c. omega (arith, inside (c .before .before .before .before .before .before .before)))
+    (λ c. let t = c .before .before .before .before .before .before .before in omega (arith, t .loop-test .taken)) loop-again
     (λ c. c .before .loop .inv .in-p .long) (λ c. c .before .loop .inv .in-y .long) returns)
