@@ -6,7 +6,7 @@
 
 #define ROWS 256
 
-/* How a program makes its steps. Both sides of a step have set 0 of a sheet without flow rows; else `step` is told the two. */
+/* How a program starts its river, makes a step between two of the sets, and says a figure. */
 struct solver {
     void (*begin)(u32 n);
     int (*step)(u32 n, u32 old, u32 new, u32 u, u32 next, u32 done, u32 steps); /* 0, or why not */

@@ -26,7 +26,7 @@ ROOT = Path(__file__).resolve().parent.parent
 ALL_RATES = {"D": 1_200, "A": 10_000, "AS": 5_000, "ALPHA": 100_000, "qin": 200, "qout": 100, "CL": 5_000_000, "LAMBDA": 20_000,
              "LAMBDA2": 30_000, "LAMHAT": 50_000, "LAMHAT2": 40_000, "RHO": 40_000, "Kd": 70, "CB": 1_000_000, "start": 2_000_000}
 
-# What the sheet asks for above 0, and what a river of plain transport has.
+# The fields of a river of plain transport that are not 0, and what storage and sorption add to them. AS may not be 0.
 PLAIN = {"D", "A", "AS", "qin", "qout", "CL", "start"}
 STORAGE = PLAIN | {"ALPHA"}
 SORPTION = STORAGE | {"LAMHAT", "LAMHAT2", "RHO", "Kd", "CB"}

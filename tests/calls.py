@@ -403,8 +403,8 @@ class Run(Caller):
         rng, words = self.spoiling, self.shelf.content["p"]
         for at, p in enumerate(words):
             if rng.random() < 0.5:
-                found = rng.choice((p + 1, p - 1, p + 2 ** 33, p + 2 ** 34, 0, ONE_WHOLE, ONE_WHOLE + 1, rng.getrandbits(64)))
-                words[at] = found % 2 ** 64
+                near = (p + 1, p - 1, p + 2 ** 33, p + 2 ** 34)
+                words[at] = rng.choice((*near, 0, ONE_WHOLE, ONE_WHOLE + 1, rng.getrandbits(64))) % 2 ** 64
         self.shelf.put("p", words)
 
     def step(self, n: int, u: int, steps: int, told: Told) -> bool:
