@@ -23,15 +23,17 @@ class Signature(NamedTuple):
 
 
 NUMBERS = {"u32": "uint32_t ", "usize": "size_t ", "&mut u32": "uint32_t *", "&mut u64": "uint64_t *",
-           "&mut [u32; 9]": "struct yumbaqel_loaded *", "&mut [u32; 40]": "struct yumbaqel_table *",
-           "&[u32; 40]": "const struct yumbaqel_table *"}
+           "&mut [u32; 9]": "struct yumbaqel_loaded *", "&mut Table": "struct yumbaqel_table *",
+           "&Table": "const struct yumbaqel_table *"}
 SLICES = {"&[u8]": "const uint8_t *", "&[u32]": "const uint32_t *", "&mut [u32]": "uint32_t *",
           "&mut [u64]": "uint64_t *", "&mut [Reach]": "struct yumbaqel_reach *"}
 
 
 def signatures() -> dict[str, Signature]:
     found = {}
-    for each in re.finditer(r'extern "C" fn (\w+)\(([^)]*)\)( -> u32)?', SOURCE.read_text()):
+    # lists that a call gathers are lent for one lifetime, which C does not see
+    source = SOURCE.read_text().replace("<'a>", "").replace("&'a ", "&")
+    for each in re.finditer(r'extern "C" fn (\w+)\(([^)]*)\)( -> u32)?', source):
         parameters = [Parameter(*part) for part in re.findall(r"(\w+): ([^,]+?),?\s*(?=\w+:|$)", each[2].strip())]
         found[each[1]] = Signature(each[1], parameters, each[3] is not None)
     return found

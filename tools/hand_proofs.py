@@ -829,14 +829,14 @@ module _ {MODEL} (W : Given 𝓤 H A) {RUN}
         ["slice-vals", "slice-vals", "uint-vals w64"],
         ["mut-slice-tells (named 0) (κs .0) T.the-row", "shr-slice-tells (named 1) (κs .1 .0) u8", "uint-tells w64"],
         "(κs .0) (κs .1 .0) (qs .0) (qs .1 .0) (a .0 .ptr .0) (a .0 .ptr .1) (a .0 .name) (a .0 .now) (a .1 .0) (a .1 .1 .0) (are .0 .0 .1) (are .1 .0 .0 .1) (are .1 .1 .0 .1)",
-        [("least", "Least", "calls-records·least"), ("read", "Read", "calls-sheet·fields·reach"), ("put", "Put", "calls-records·put")],
+        [("least", "Least", "calls-lists·least"), ("read", "Read", "calls-sheet·fields·reach"), ("put", "Put", "calls-records·put")],
     )
     write(
         "records",
         "fill",
         "-- `fill` meets its contract. A turn of the loop reads a record off the sheet, lends the list on to `put` and has it back; the invariant is\n-- that i entries are filled.",
-        "use Rattle.model.specs.Sheet.{reachOn}\nuse Rattle.terms.specs.Says.{reachSays}\n" + IMPORTS_REACH + callee_imports("Rattle.sheet.proofs.fields.reach", "read")
-        + callee_imports("Rattle.records.proofs.least", "least") + callee_imports("Rattle.records.proofs.put", "put")
+        "use Rattle.model.specs.Sheet.{reachOn}\nuse Rattle.terms.specs.Says.{reachSays}\n" + IMPORTS_REACH + callee_imports("Rattle.lists.proofs.least", "least")
+        + callee_imports("Rattle.sheet.proofs.fields.reach", "read") + callee_imports("Rattle.records.proofs.put", "put")
         + "use Rattle.records.proofs.Again.{LentAgain, lends-again, comes-back}\nuse Rattle.records.proofs.Filled.{table, table-length, table-next, table-filled}\n"
         + own_imports("records", "fill"),
         body,

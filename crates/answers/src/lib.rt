@@ -4,15 +4,14 @@ ghost use Rattle.terms.specs.Says.{placeSays, findingSays};
 ghost use Rattle.lists.specs.Lent.{entry, exit};
 ghost use Rattle.assembly.specs.Says.{loadSays};
 ghost use Rattle.boundary.specs.Says.{upstreamSays};
-ghost use Rattle.otis.specs.Says.{startSays, stepSays, reportSays};
+ghost use Rattle.otis.specs.Says.{answerSays, reportSays};
 ghost use Rattle.otis.specs.Outcomes.{handed};
 ghost use Rattle.search.specs.Says.{searchSays};
 ghost use Rattle.answers.specs.Answers.{kindNumber, placeNumber, foundBy, Told, loadedValues, segmentNumber};
 use assembly::Load;
 use boundary::Upstream;
+use otis::Answer;
 use otis::Report;
-use otis::Start;
-use otis::Step;
 use search::Search;
 use terms::Finding;
 use terms::Place;
@@ -81,47 +80,26 @@ pub fn put_load(
     }
 }
 
-pub fn put_start(
-    answer: Start,
+// Of a start or a step.
+pub fn put_river(
+    answer: Answer,
     number: &mut u32,
     kind: &mut u32,
     place: &mut u32,
     upstream: &mut u32,
     done: &mut u32,
 )
-    ensures told { λ _. ⌜ Told (foundBy (startSays answer)) (exit number) (exit kind) (exit place) ⌝ }
-    ensures upstream { λ _. ⌜ exit upstream ≡ handed (startSays answer) (λ v. v .upstream) (entry upstream) ⌝ }
-    ensures done { λ _. ⌜ exit done ≡ handed (startSays answer) (λ v. v .steps) (entry done) ⌝ }
+    ensures told { λ _. ⌜ Told (foundBy (answerSays answer)) (exit number) (exit kind) (exit place) ⌝ }
+    ensures upstream { λ _. ⌜ exit upstream ≡ handed (answerSays answer) (λ v. v .upstream) (entry upstream) ⌝ }
+    ensures done { λ _. ⌜ exit done ≡ handed (answerSays answer) (λ v. v .steps) (entry done) ⌝ }
 {
     match answer {
-        Start::Started(river) => {
+        Answer::Accepted(river) => {
             *upstream = river.upstream;
             *done = river.steps;
             put_refusal(0, Place::Nothing, number, kind, place);
         }
-        Start::Refused(refusal, at) => put_refusal(refusal, at, number, kind, place),
-    }
-}
-
-pub fn put_step(
-    answer: Step,
-    number: &mut u32,
-    kind: &mut u32,
-    place: &mut u32,
-    upstream: &mut u32,
-    done: &mut u32,
-)
-    ensures told { λ _. ⌜ Told (foundBy (stepSays answer)) (exit number) (exit kind) (exit place) ⌝ }
-    ensures upstream { λ _. ⌜ exit upstream ≡ handed (stepSays answer) (λ v. v .upstream) (entry upstream) ⌝ }
-    ensures done { λ _. ⌜ exit done ≡ handed (stepSays answer) (λ v. v .steps) (entry done) ⌝ }
-{
-    match answer {
-        Step::Stepped(river) => {
-            *upstream = river.upstream;
-            *done = river.steps;
-            put_refusal(0, Place::Nothing, number, kind, place);
-        }
-        Step::Refused(refusal, at) => put_refusal(refusal, at, number, kind, place),
+        Answer::Refused(refusal, at) => put_refusal(refusal, at, number, kind, place),
     }
 }
 
@@ -193,23 +171,13 @@ pub fn put_search(
     }
 }
 
-// What the tests of a start found, for a call that hands out no value.
-pub fn start_finding(answer: Start) -> Finding
-    ensures { λ r. ⌜ findingSays r ≡ foundBy (startSays answer) ⌝ }
+// What the tests of a start or a step found, for a call that hands out no value.
+pub fn finding_of(answer: Answer) -> Finding
+    ensures { λ r. ⌜ findingSays r ≡ foundBy (answerSays answer) ⌝ }
 {
     match answer {
-        Start::Started(_) => Finding::Passes,
-        Start::Refused(refusal, at) => Finding::Fails(refusal, at),
-    }
-}
-
-// And of a step.
-pub fn step_finding(answer: Step) -> Finding
-    ensures { λ r. ⌜ findingSays r ≡ foundBy (stepSays answer) ⌝ }
-{
-    match answer {
-        Step::Stepped(_) => Finding::Passes,
-        Step::Refused(refusal, at) => Finding::Fails(refusal, at),
+        Answer::Accepted(_) => Finding::Passes,
+        Answer::Refused(refusal, at) => Finding::Fails(refusal, at),
     }
 }
 

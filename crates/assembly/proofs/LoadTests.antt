@@ -1,5 +1,5 @@
 -- A loading's tests in their order, and what an accepted loading and a refused one leave.
-use mathlib.Core.Bool.{Bool, true, false, _||_}
+use mathlib.Core.Bool.{true, false}
 use mathlib.Core.List.{List, [], _∷_, _++_}
 use mathlib.Core.Logic.{⊎-elim}
 use mathlib.Core.Path.{_≡_, refl, sym, ap, _∙_}
@@ -8,13 +8,15 @@ use native.Mathlib.Nat.{eq-or-lt-of-le}
 use native.Mathlib.Omega.{arith}
 use borrow.Author.Tests.{lt-ltb, le-ltb, ltb-false}
 use lib.Dec.{ltb}
+use Rattle.lists.specs.Lists.{anyShorter}
 use Rattle.lists.proofs.Shorter.{neither, all-long}
-use Rattle.model.specs.Sheet.{flowRowCount, segmentCount}
+use Rattle.model.specs.Sheet.{reachCount, flowRowCount, segmentCount}
 use Rattle.model.specs.Flow.{courseOf}
 use Rattle.model.specs.State.{Columns, columnLists}
 use Rattle.model.specs.Refusals.{Place, nothing, segment, Finding, passes, fails, testEach, test, first, answer}
 use Rattle.model.specs.Load.{testFlows, loaded, sheetTests, courseTests, riverTests, listTests, loadTests, loadAnswer, columnsAfter, loadColumns}
 use Rattle.model.proofs.Refusals.{first-of, first-rest, first-front, first-both, all-pass, flows-clear, each-clear, test-clear}
+use Rattle.terms.proofs.Lengths.{columns-first}
 use Rattle.course.specs.Segments.{courseFault, ClearFlows}
 use Rattle.assembly.specs.Fit.{Fit}
 
@@ -55,25 +57,26 @@ module _ {tests left : List Finding} {f : Finding} (r : Judging tests (f ∷ lef
   pub judging-stop : {number : ℕ} {place : Place} → f ≡ fails number place → fails number place ≡ first tests
   judging-stop e = sym (rw e) ∙ r .rest
 
--- test 13: a number past the rows, a list shorter than the river, too few reach records, and none of them
-pub test-past : (rows row : ℕ) (short few : Bool) → rows < row → test 13 (ltb rows row || short || few) ≡ fails 13 nothing
-test-past rows row short few h = rw (lt-ltb rows row h)
-
-module _ (rows row : ℕ) (known : row ≤ rows) where
-  pub test-short : (short few : Bool) → short ≡ true → test 13 (ltb rows row || short || few) ≡ fails 13 nothing
-  test-short short few e = rw (le-ltb rows row known, e)
-
-  module _ (short : Bool) (records reaches : ℕ) (e : short ≡ false) where
-    pub test-few : records < reaches → test 13 (ltb rows row || short || ltb records reaches) ≡ fails 13 nothing
-    test-few h = rw (le-ltb rows row known, e, lt-ltb records reaches h)
-
-    pub test-enough : reaches ≤ records → test 13 (ltb rows row || short || ltb records reaches) ≡ passes
-    test-enough h = rw (le-ltb rows row known, e, le-ltb records reaches h)
-
 -- one test by itself
 pub first-one : (f : Finding) → first (f ∷ []) ≡ f
 first-one passes = refl
 first-one (fails number place) = refl
+
+-- test 13 where the tests before it pass: a number past the rows, a list shorter than the river, and neither, where the reach records decide
+module _ (sheet : List ℕ) (row records : ℕ) (x : Columns) {found : Finding} (e : found ≡ passes) where
+  pub past-rows : flowRowCount sheet < row → first (found ∷ listTests sheet row records x) ≡ fails 13 nothing
+  unfolding listTests
+  past-rows h = rw (e, lt-ltb (flowRowCount sheet) row h)
+
+  module _ (known : row ≤ flowRowCount sheet) where
+    pub too-short : anyShorter (segmentCount sheet) (columnLists x) ≡ true → first (found ∷ listTests sheet row records x) ≡ fails 13 nothing
+    unfolding listTests
+    too-short s = rw (e, le-ltb (flowRowCount sheet) row known, s)
+
+    pub records-decide : anyShorter (segmentCount sheet) (columnLists x) ≡ false →
+        first (found ∷ listTests sheet row records x) ≡ test 13 (ltb records (reachCount sheet))
+    unfolding listTests
+    records-decide s = rw (e, le-ltb (flowRowCount sheet) row known, s) (first-one (test 13 (ltb records (reachCount sheet))))
 
 -- the tests that follow those of the sheet's own fields, over n segments
 abbrev pub later : List ℕ → (n : ℕ) → List Finding
@@ -101,28 +104,10 @@ module _ (sheet : List ℕ) (row records : ℕ) (x : Columns) where
       let both = first-both (sheetTests sheet) (later sheet n) (rw (river-tests sheet n refl) at river) in
       let all = all-pass (later sheet n) (both .1) in
       let clear = neither _ _ (neither _ _ (test-clear 13 _ (all-pass (listTests sheet row records x) lists .0)) .0) in
-      let long = all-long n (columnLists x) (clear .1) in
       record {
         read = record { passed = both .0; count = refl };
         clear = clear-next (clear-next (clear-next clear-start (all .0)) (all .1 .0)) (all .1 .1 .0) .each row (ltb-false _ _ (clear .0));
-        long = record {
-          numbers = record {
-            e = long .0;
-            g = long .1 .0;
-            l = long .1 .1 .0;
-            a = long .1 .1 .1 .0;
-            b = long .1 .1 .1 .1 .0;
-            k = long .1 .1 .1 .1 .1 .0;
-            ks = long .1 .1 .1 .1 .1 .1 .0;
-            h = long .1 .1 .1 .1 .1 .1 .1 .0;
-            m = long .1 .1 .1 .1 .1 .1 .1 .1 .0;
-            s = long .1 .1 .1 .1 .1 .1 .1 .1 .1 .0;
-          };
-          cl = long .1 .1 .1 .1 .1 .1 .1 .1 .1 .1 .0;
-          cb = long .1 .1 .1 .1 .1 .1 .1 .1 .1 .1 .1 .0;
-          kd = long .1 .1 .1 .1 .1 .1 .1 .1 .1 .1 .1 .1 .0;
-          start = long .1 .1 .1 .1 .1 .1 .1 .1 .1 .1 .1 .1 .1 .0;
-        };
+        long = columns-first n x [] (all-long n (columnLists x) (clear .1));
       }
 
   -- tests 1 to 12 and then 13 are a loading's

@@ -1,6 +1,8 @@
 // A loading over plain lists: any bytes in, half-step numbers or a numbered refusal out. Of the list of reach records it is handed the length.
 ghost use mathlib.Core.Path.{_≡_};
-ghost use mathlib.Core.List.{_∷_};
+ghost use mathlib.Core.List.{_∷_, map};
+ghost use lib.ListN.{length};
+ghost use Rattle.model.specs.State.{Columns, columnLists};
 ghost use Rattle.model.specs.Refusals.{passes, first, answer};
 ghost use Rattle.model.specs.Load.{riverTests, listTests, loaded, loadAnswer, columnsAfter, loadColumns};
 ghost use Rattle.terms.specs.Says.{findingSays};
@@ -9,9 +11,9 @@ ghost use Rattle.terms.specs.Lent.{columns};
 ghost use Rattle.course.specs.Segments.{Read};
 ghost use Rattle.assembly.specs.Says.{loadedSays, loadSays};
 ghost use Rattle.assembly.specs.Fit.{Fit};
-use columns::any_short;
 use columns::fill;
 use course::flows_test;
+use lists::any_short;
 use sheet::fields::flow_row_count;
 use sheet::fields::flow_rows_at;
 use sheet::fields::gauge_count;
@@ -61,28 +63,17 @@ pub fn river_test(sheet: &[u8]) -> Finding
     flows_test(sheet, n, 12)
 }
 
-// Test 13 of a loading, behind what the tests before it find; `row` is the flow row's number, `records` the length of the list of reach records.
+// Test 13 of a loading, behind what the tests before it find; `row` is the flow row's number, `records` the length of the list of reach records,
+// and these are the lengths of the fourteen lists.
 pub fn list_test(
     found: Finding,
     sheet: &[u8],
     row: u32,
     records: usize,
-    e: &[u32],
-    g: &[u32],
-    l: &[u32],
-    a: &[u32],
-    b: &[u32],
-    k: &[u32],
-    ks: &[u32],
-    h: &[u32],
-    m: &[u32],
-    s: &[u32],
-    cl: &[u32],
-    cb: &[u32],
-    kd: &[u32],
-    start: &[u32],
+    lengths: &[usize],
 ) -> Finding
-    ensures { λ r. ⌜ findingSays r ≡ first (findingSays found ∷ listTests (entry sheet) row records (columns entry e g l a b k ks h m s cl cb kd start)) ⌝ }
+    ensures { λ r. ⌜ ((x : Columns) → map length (columnLists x) ≡ entry lengths →
+        findingSays r ≡ first (findingSays found ∷ listTests (entry sheet) row records x)) ⌝ }
 {
     if let Finding::Fails(number, place) = found {
         return Finding::Fails(number, place);
@@ -90,23 +81,7 @@ pub fn list_test(
     if flow_row_count(sheet) < row {
         return Finding::Fails(13, Place::Nothing);
     }
-    if any_short(
-        segment_count(sheet),
-        e,
-        g,
-        l,
-        a,
-        b,
-        k,
-        ks,
-        h,
-        m,
-        s,
-        cl,
-        cb,
-        kd,
-        start,
-    ) {
+    if any_short(segment_count(sheet), lengths) {
         return Finding::Fails(13, Place::Nothing);
     }
     if records < reach_count(sheet) as usize {
@@ -219,20 +194,22 @@ impl Loaded {
             sheet,
             row,
             records,
-            &e[..],
-            &g[..],
-            &l[..],
-            &a[..],
-            &b[..],
-            &k[..],
-            &ks[..],
-            &h[..],
-            &m[..],
-            &s[..],
-            &cl[..],
-            &cb[..],
-            &kd[..],
-            &start[..],
+            &[
+                e.len(),
+                g.len(),
+                l.len(),
+                a.len(),
+                b.len(),
+                k.len(),
+                ks.len(),
+                h.len(),
+                m.len(),
+                s.len(),
+                cl.len(),
+                cb.len(),
+                kd.len(),
+                start.len(),
+            ],
         );
         Loaded::write(
             found,

@@ -13,16 +13,11 @@ ghost use Rattle.lists.specs.Lent.{entry};
 ghost use Rattle.lists.specs.Lists.{lowest};
 ghost use Rattle.boundary.specs.Says.{upstreamSays};
 use crate::Upstream;
-use calltests::limits::outside;
+use limits::ROWS;
+use limits::outside;
 use sheet::faults::row_fault;
-use sheet::ranges::ROWS;
 use terms::Finding;
 use terms::Place;
-
-// The fewest and the most boundary rows.
-const FEWEST: u64 = ROWS.counts.low as u64;
-
-const MOST: u64 = ROWS.counts.high as u64;
 
 // The lowest row at fault, counting from 0, or the count of rows.
 fn row_at_fault(starts: &[u32], concentrations: &[u32], steps: u32) -> usize
@@ -66,7 +61,7 @@ fn last_started(starts: &[u32], concentrations: &[u32], j: u32) -> u32
 fn count_fault(starts: usize, concentrations: usize) -> bool
     ensures { λ r. ⌜ r ≡ (outside (rowSection .counts) starts || not (eqb starts concentrations)) ⌝ }
 {
-    if outside(FEWEST, MOST, starts as u64) {
+    if outside(ROWS.counts, starts as u64) {
         return true;
     }
     starts != concentrations

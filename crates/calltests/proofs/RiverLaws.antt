@@ -8,12 +8,13 @@ use lib.Dec.{eqb, ltb}
 use lib.ListN.{length}
 use Rattle.lists.specs.Lists.{lowest, anyShorter}
 use Rattle.lists.proofs.Either.{lowest-either}
-use Rattle.lists.proofs.Shorter.{neither, AllLong, all-long}
+use Rattle.lists.proofs.Shorter.{neither, AllLong, all-long, shorter-both}
 use Rattle.model.specs.Ranges.{_to_, outside, mostSegments}
 use Rattle.model.specs.State.{NumberSet, setLists, numbersAt, Columns, columnLists, segmentAt, State, figuresAt}
 use Rattle.model.proofs.Ranges.{inside}
 use Rattle.model.specs.Calls.{riverFault, numbersFault, segmentFault, figureFault, startFault, stateFault, oldFault}
-use Rattle.terms.specs.Lent.{LongSet, Long, LongFigures}
+use Rattle.terms.specs.Lent.{Long, LongFigures}
+use Rattle.terms.proofs.Lengths.{columns-first, figures-behind}
 
 -- segment i of n, which is the last where i + 1 is n
 pub start-fault-at : (n : ℕ) (x : Columns) (i : ℕ) (fault : Bool) → segmentFault (eqb (i + 1) n) (segmentAt x i) ≡ fault →
@@ -27,15 +28,6 @@ unfolding oldFault
 old-fault-at n old i fault e = rw (add-one i) at e
 
 -- ---- lengths
-
-or-or : (a b c : Bool) → (a || (b || c)) ≡ (a || b || c)
-or-or true b c = refl
-or-or false b c = refl
-
-pub shorter-both : (n : ℕ) (lists others : List (List ℕ)) → anyShorter n (lists ++ others) ≡ (anyShorter n lists || anyShorter n others)
-unfolding anyShorter
-shorter-both n [] others = refl
-shorter-both n (list ∷ lists) others = rw (shorter-both n lists others) (or-or (ltb (length list) n) (anyShorter n lists) (anyShorter n others))
 
 -- the count is right: a set in front is short, or what is behind it decides
 module _ (n : ℕ) (x : NumberSet) (others : List (List ℕ)) (in-range : outside (1 to mostSegments) n ≡ false) where
@@ -57,44 +49,13 @@ pub lists-long : (n : ℕ) (lists : List (List ℕ)) → riverFault n lists ≡ 
 unfolding riverFault
 lists-long n lists e = all-long n lists (neither (outside (1 to mostSegments) n) (anyShorter n lists) e .1)
 
--- a set whose lists are first
-set-first : (n : ℕ) (x : NumberSet) (others : List (List ℕ)) → AllLong n (setLists x ++ others) → LongSet n x
-set-first n x others long = record {
-  e = long .0;
-  g = long .1 .0;
-  l = long .1 .1 .0;
-  a = long .1 .1 .1 .0;
-  b = long .1 .1 .1 .1 .0;
-  k = long .1 .1 .1 .1 .1 .0;
-  ks = long .1 .1 .1 .1 .1 .1 .0;
-  h = long .1 .1 .1 .1 .1 .1 .1 .0;
-  m = long .1 .1 .1 .1 .1 .1 .1 .1 .0;
-  s = long .1 .1 .1 .1 .1 .1 .1 .1 .1 .0;
-}
-
-pub set-long : (n : ℕ) (x : NumberSet) → anyShorter n (setLists x) ≡ false → LongSet n x
-set-long n x e = set-first n x [] (all-long n (setLists x) e)
-
 pub columns-long : (n : ℕ) (x : Columns) (others : List (List ℕ)) → riverFault n (columnLists x ++ others) ≡ false → Long n x
-columns-long n x others e =
-    let long = lists-long n (columnLists x ++ others) e in
-    record {
-      numbers = set-first n (x .numbers) (x .cl ∷ x .cb ∷ x .kd ∷ x .start ∷ others) long;
-      cl = long .1 .1 .1 .1 .1 .1 .1 .1 .1 .1 .0;
-      cb = long .1 .1 .1 .1 .1 .1 .1 .1 .1 .1 .1 .0;
-      kd = long .1 .1 .1 .1 .1 .1 .1 .1 .1 .1 .1 .1 .0;
-      start = long .1 .1 .1 .1 .1 .1 .1 .1 .1 .1 .1 .1 .1 .0;
-    }
+columns-long n x others e = columns-first n x others (lists-long n (columnLists x ++ others) e)
 
 pub figures-long : (n : ℕ) (x : Columns) (channel storage sediment : List ℕ) →
     riverFault n (columnLists x ++ channel ∷ storage ∷ sediment ∷ []) ≡ false → LongFigures n channel storage sediment
 figures-long n x channel storage sediment e =
-    let long = lists-long n (columnLists x ++ channel ∷ storage ∷ sediment ∷ []) e in
-    record {
-      channel = long .1 .1 .1 .1 .1 .1 .1 .1 .1 .1 .1 .1 .1 .1 .0;
-      storage = long .1 .1 .1 .1 .1 .1 .1 .1 .1 .1 .1 .1 .1 .1 .1 .0;
-      sediment = long .1 .1 .1 .1 .1 .1 .1 .1 .1 .1 .1 .1 .1 .1 .1 .1 .0;
-    }
+    figures-behind n x channel storage sediment (lists-long n (columnLists x ++ channel ∷ storage ∷ sediment ∷ []) e)
 
 -- ---- test 14
 

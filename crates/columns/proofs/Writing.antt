@@ -54,6 +54,10 @@ writing-start = record {
   start = filling-start;
 }
 
+-- a list that segment i is written in reaches it
+pub in-list : {f : ℕ → ℕ} {before list : List ℕ} {i n : ℕ} → Filling f before i list → n ≤ length before → i < n → i < length list
+in-list r l h = omega (arith, r .long)
+
 -- one more entry
 turn : {f : ℕ → ℕ} {before list : List ℕ} {i n v : ℕ} → Filling f before i list → i < n → n ≤ length before → v ≡ f i →
     Filling f before (i + 1) (set list i v)

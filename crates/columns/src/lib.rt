@@ -1,10 +1,7 @@
-// The fourteen lists of a loading: test 13 of their lengths, and what an accepted loading writes.
+// The fourteen lists of a loading: what an accepted loading writes.
 ghost use mathlib.Core.Path.{_≡_};
-ghost use mathlib.Core.Bool.{_||_};
-ghost use lib.Dec.{ltb};
-ghost use Rattle.lists.specs.Lists.{anyShorter};
 ghost use Rattle.model.specs.Flow.{courseOf};
-ghost use Rattle.model.specs.State.{columnLists, loadedSegments, writeSegments};
+ghost use Rattle.model.specs.State.{loadedSegments, writeSegments};
 ghost use Rattle.lists.specs.Lent.{entry, exit};
 ghost use Rattle.terms.specs.Lent.{columns, Long};
 ghost use Rattle.course.specs.Segments.{Clear, Read};
@@ -12,91 +9,6 @@ use course::site;
 use halfstep::descent::Cursor;
 use sheet::fields::dx;
 use sheet::fields::reach;
-
-// A list is shorter than the river, or others are.
-fn short(n: usize, length: usize, others: bool) -> bool
-    ensures { λ r. ⌜ r ≡ (ltb length n || others) ⌝ }
-{
-    if length < n {
-        return true;
-    }
-    others
-}
-
-// One of the lists is shorter than the river.
-pub fn any_short(
-    n: usize,
-    e: &[u32],
-    g: &[u32],
-    l: &[u32],
-    a: &[u32],
-    b: &[u32],
-    k: &[u32],
-    ks: &[u32],
-    h: &[u32],
-    m: &[u32],
-    s: &[u32],
-    cl: &[u32],
-    cb: &[u32],
-    kd: &[u32],
-    start: &[u32],
-) -> bool
-    ensures { λ r. ⌜ r ≡ anyShorter n (columnLists (columns entry e g l a b k ks h m s cl cb kd start)) ⌝ }
-{
-    short(
-        n,
-        e.len(),
-        short(
-            n,
-            g.len(),
-            short(
-                n,
-                l.len(),
-                short(
-                    n,
-                    a.len(),
-                    short(
-                        n,
-                        b.len(),
-                        short(
-                            n,
-                            k.len(),
-                            short(
-                                n,
-                                ks.len(),
-                                short(
-                                    n,
-                                    h.len(),
-                                    short(
-                                        n,
-                                        m.len(),
-                                        short(
-                                            n,
-                                            s.len(),
-                                            short(
-                                                n,
-                                                cl.len(),
-                                                short(
-                                                    n,
-                                                    cb.len(),
-                                                    short(
-                                                        n,
-                                                        kd.len(),
-                                                        short(n, start.len(), false),
-                                                    ),
-                                                ),
-                                            ),
-                                        ),
-                                    ),
-                                ),
-                            ),
-                        ),
-                    ),
-                ),
-            ),
-        ),
-    )
-}
 
 // "A loading gives each segment's half-step numbers, CL, CB, Kd and start figure in lists": the first n entries of each, with the set of
 // this row's flow.

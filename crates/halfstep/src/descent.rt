@@ -20,18 +20,11 @@ pub struct Cursor {
     pub gain: i64,
 }
 
-// A product of two 32-bit numbers, which fits 64 bits.
-pub fn product(x: u32, y: u32) -> u64
-    ensures { λ r. ⌜ r ≡ x * y ⌝ }
-{
-    (x as u64) * (y as u64)
-}
-
 // The AD of a segment of this reach.
 pub fn ad(own: Reach) -> u64
     ensures { λ r. ⌜ r ≡ adOf (reachSays own) ⌝ }
 {
-    product(own.area, own.dispersion)
+    rounding::product(own.area, own.dispersion)
 }
 
 // A segment's own gain, which it adds to the sum of those below it.

@@ -32,7 +32,7 @@ pub struct Site {
 }
 
 // The highest flow, in mL/s.
-const HIGHEST_FLOW: i64 = 100000000;
+const HIGHEST_FLOW: i64 = limits::FLOW.high as i64;
 
 // The flow at the top, the gain of the segments before and half of the segment's own, rounded down once. There are 100,000 cm to
 // the km, and twice as many for twice the sum.
@@ -63,7 +63,7 @@ fn discharge(flow: i64) -> u64
 fn rate(dt: u32, rate: u32) -> u32
     ensures { λ r. ⌜ r ≡ cut (rateOf dt rate) ⌝ }
 {
-    rounding::parts(descent::product(dt, rate), 2000000000)
+    rounding::parts(rounding::product(dt, rate), 2000000000)
 }
 
 // 4 × A × dx².
@@ -71,7 +71,7 @@ fn face_divisor(area: u32, dx: u32) -> u64
     requires { ⌜ (1 ≤ area) × (area ≤ 10 ^ 6) × (1 ≤ dx) × (dx ≤ 10 ^ 4) ⌝ }
     ensures { λ r. ⌜ (r ≡ 4 * area * (dx * dx)) × (0 < r) ⌝ }
 {
-    4 * (area as u64) * descent::product(dx, dx)
+    4 * (area as u64) * rounding::product(dx, dx)
 }
 
 // dt × x / d, where x is what crosses a face of the segment.
@@ -87,7 +87,7 @@ fn inflow(dt: u32, qin: u32, area: u32) -> u32
     requires { ⌜ 1 ≤ area ⌝ }
     ensures { λ r. ⌜ r ≡ cut (parts (dt * qin) (2 * 10 ^ 5 * area)) ⌝ }
 {
-    rounding::parts(descent::product(dt, qin), 200000 * (area as u64))
+    rounding::parts(rounding::product(dt, qin), 200000 * (area as u64))
 }
 
 // dt × ALPHA × A / (2 × 10⁹ × AS).
@@ -96,7 +96,7 @@ fn exchange(dt: u32, alpha: u32, area: u32, area2: u32) -> u32
     ensures { λ r. ⌜ r ≡ cut (parts (dt * alpha * area) (2 * 10 ^ 9 * area2)) ⌝ }
 {
     rounding::parts(
-        descent::product(dt, alpha) * (area as u64),
+        rounding::product(dt, alpha) * (area as u64),
         2000000000 * (area2 as u64),
     )
 }
@@ -111,7 +111,7 @@ fn sorption(dt: u32, lamhat: u32, rho: u32, kd: u32, h: u32) -> u32
         return 0;
     }
     rounding::parts(
-        descent::product(dt, lamhat) * (rho as u64) * (kd as u64),
+        rounding::product(dt, lamhat) * (rho as u64) * (kd as u64),
         2000000000000000,
     )
 }

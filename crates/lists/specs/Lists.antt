@@ -28,6 +28,11 @@ unfoldable pub anyShorter : ℕ → List (List ℕ) → Bool
 anyShorter n [] = false
 anyShorter n (list ∷ lists) = ltb (length list) n || anyShorter n lists
 
+-- the same of lengths: one of them is below n
+unfoldable pub anyUnder : ℕ → List ℕ → Bool
+anyUnder n [] = false
+anyUnder n (length ∷ lengths) = ltb length n || anyUnder n lengths
+
 -- "strictly rising": entry i is not above the entry before it, so that of two out of order the later is at fault
 unfoldable pub notRising : List ℕ → ℕ → Bool
 notRising list zero = false

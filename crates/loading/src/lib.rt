@@ -10,12 +10,13 @@ ghost use Rattle.terms.specs.Lent.{columns};
 ghost use Rattle.assembly.specs.Says.{loadSays};
 use assembly::Load;
 use assembly::Loaded;
+use records::NO_REACH;
 use records::fill;
 use records::fill_count;
 use terms::Reach;
 
 // The most reaches that a sheet can have.
-const REACHES: usize = sheet::ranges::REACHES.counts.high as usize;
+const REACHES: usize = limits::REACHES.counts.high as usize;
 
 // "The reach table is handed to the loader as a list of reach records, lent with the other lists": its tests on any bytes, any number of a
 // flow row and any lists; where all pass, the first entries of each list are written, with the set of that row's flow, otherwise nothing.
@@ -92,24 +93,7 @@ pub fn load_lists(
     ensures room { λ r. ⌜ ((records : ℕ) → 64 ≤ records → loadSays r ≡ loadAnswer (entry sheet) row records
         (columns entry e g l a b k ks h m s cl cb kd start)) ⌝ }
 {
-    let mut reaches = [Reach {
-        segments: 0,
-        dispersion: 0,
-        area: 0,
-        area2: 0,
-        alpha: 0,
-        qin: 0,
-        qout: 0,
-        cl: 0,
-        lambda: 0,
-        lambda2: 0,
-        lamhat: 0,
-        lamhat2: 0,
-        rho: 0,
-        kd: 0,
-        cb: 0,
-        start: 0,
-    }; REACHES];
+    let mut reaches = [NO_REACH; REACHES];
     load(
         sheet,
         row,

@@ -8,6 +8,7 @@ ghost use Rattle.lists.specs.Lent.{entry, exit};
 ghost use Rattle.terms.specs.Lent.{columns, pool};
 ghost use Rattle.assembly.specs.Says.{loadSays};
 use assembly::Load;
+use pool_table::Table;
 use records::fill;
 use records::fill_count;
 use terms::Reach;
@@ -37,7 +38,7 @@ pub fn open(
     storage: &mut [u32],
     sediment: &mut [u32],
     highest: &mut [u32],
-    table: &mut [u32; 40],
+    table: &mut Table,
     u: u32,
 ) -> Load
     ensures answer { λ r. ⌜ loadSays r ≡ openAnswer (entry sheet) row (length (entry reaches))

@@ -17,7 +17,7 @@ use Rattle.model.specs.Highest.{blockCount, highestOf, blocksFault}
 use Rattle.model.specs.Calls.{riverFault, startTests, startAnswer, startFigures, startState, startHighest}
 use Rattle.terms.specs.declared.Place as Code
 use Rattle.terms.specs.Says.{placeSays}
-use Rattle.otis.specs.declared.Start.the-variants.{Started, Refused}
+use Rattle.otis.specs.declared.Answer.the-variants.{Accepted, Refused}
 use Rattle.lists.specs.Lent.{plain}
 use Rattle.terms.specs.Lent.{state, LongFigures}
 use Rattle.otis.specs.Outcomes.{StartOutcome}
@@ -59,7 +59,7 @@ module _ (n : ℕ) (x : Columns) (before : State) (lent : List ℕ) (u : ℕ) wh
   pub start-accepted : (c z w left : List ℕ) → first (startTests n x before lent u) ≡ passes →
       c ≡ over (tab 0 n (λ i. getD (x .start) i 0)) (before .channel) → z ≡ over (tab 0 n (λ i. getD (x .start) i 0)) (before .storage) →
       w ≡ over (tab 0 n (λ i. getD (x .start) i 0)) (before .sediment) → left ≡ over (highestOf n c) lent →
-      StartOutcome n x before lent u (Started (record { upstream = u; steps = 0 })) (state plain c z w u 0) left
+      StartOutcome n x before lent u (Accepted (record { upstream = u; steps = 0 })) (state plain c z w u 0) left
   unfolding startAnswer startState startHighest segmentAt writeFigures
   start-accepted c z w left e p q r t = record {
     answer = rw e;

@@ -9,11 +9,11 @@ use native.Mathlib.Omega.{arith}
 use borrow.Author.Tests.{ltb-false, leb-false}
 use lib.Dec.{leb, ltb}
 use lib.ListN.{length, getD}
-use Rattle.lists.specs.Lists.{over, lowest, anyShorter}
+use Rattle.lists.specs.Lists.{over, lowest, anyShorter, anyUnder}
 use Rattle.lists.proofs.Over.{over-long}
 use Rattle.lists.proofs.Either.{lowest-either}
 use Rattle.lists.proofs.Lowest.{none-at-fault}
-use Rattle.lists.proofs.Shorter.{neither, all-long}
+use Rattle.lists.proofs.Shorter.{neither, all-long, shorter-both, under-lengths}
 use Rattle.rounding.specs.Nearest.{S}
 use Rattle.model.specs.Ranges.{_to_, outside, concentration, highest, mostKd, mostSteps, mostSegments}
 use Rattle.model.specs.HalfStep.{Numbers}
@@ -26,7 +26,7 @@ use Rattle.model.specs.Highest.{blockCount, highestOf, blocksFault}
 use Rattle.model.specs.Calls.{riverFault, numbersFault, segmentFault, figureFault, startFault, stateFault, oldFault, heldFault, Working, stepTests, stepAnswer, stepState, stepHighest, stepWorking}
 use Rattle.model.proofs.Ranges.{inside}
 use Rattle.model.proofs.Refusals.{AllPass, all-pass, test-clear}
-use Rattle.stability.specs.Accepted.{Sums, Accepted, AtMost}
+use Rattle.sweep_laws.specs.Accepted.{Sums, Accepted, AtMost}
 use Rattle.lists.specs.Lent.{plain}
 use Rattle.terms.specs.Lent as Lent
 use Rattle.sweep.specs.Step as Sweep
@@ -34,9 +34,10 @@ use Rattle.terms.specs.declared.Place as Code
 use Rattle.terms.specs.Says.{placeSays}
 use Rattle.blocks.proofs.Fault.{blocks-long}
 use Rattle.calltests.specs.Tests.{stateTests}
-use Rattle.calltests.proofs.RiverLaws.{shorter-both, counted, set-long, columns-long, figures-long}
+use Rattle.calltests.proofs.RiverLaws.{counted, columns-long, figures-long}
+use Rattle.terms.proofs.Lengths.{set-long}
 use Rattle.calltests.proofs.StateTests.{Sound, sound}
-use Rattle.otis.specs.declared.Step.the-variants.{Stepped, Refused}
+use Rattle.otis.specs.declared.Answer.the-variants as Answer
 use Rattle.otis.specs.Outcomes.{StepOutcome}
 
 -- ---- the tests of a step are those of its state, and then 15
@@ -51,12 +52,27 @@ first-first (fails number place ∷ tests) finding = refl
 pub steps-left : (finding : Finding) (M done : ℕ) → first (finding ∷ test 15 (leb M done) ∷ []) ≡ passes → done < M
 steps-left finding M done e = leb-false M done (test-clear 15 (leb M done) (all-pass (finding ∷ test 15 (leb M done) ∷ []) e .1 .0))
 
--- the highest figures, the working lists and the old set
-pub others-short : (n : ℕ) (blocks : List ℕ) (p y : List ℕ) (old : NumberSet) (count : ℕ) (fault both rest set : Bool) → count ≡ blockCount n →
-    fault ≡ (ltb (length blocks) count || both) → both ≡ (ltb (length p) n || rest) → rest ≡ (ltb (length y) n || set) →
-    set ≡ anyShorter n (setLists old) → fault ≡ (blocksFault n blocks || anyShorter n (p ∷ y ∷ setLists old))
-unfolding anyShorter blocksFault
-others-short n blocks p y old count fault both rest set k e o q r = e ∙ rw (k, o, q, r)
+-- two lengths in front of others: one is below n, or the others decide
+module _ (n p y : ℕ) (more : List ℕ) where
+  pub works-short : anyUnder n (p ∷ y ∷ []) ≡ true → anyUnder n (p ∷ y ∷ more) ≡ true
+  unfolding anyUnder
+  works-short e = go (ltb p n) (ltb y n) e
+    where
+      go : (a b : Bool) → (a || (b || false)) ≡ true → (a || (b || anyUnder n more)) ≡ true
+      go true b e = refl
+      go false true e = refl
+      go false false e = absurd (true≢false (sym e))
+
+  pub works-long : anyUnder n (p ∷ y ∷ []) ≡ false → anyUnder n (p ∷ y ∷ more) ≡ anyUnder n more
+  unfolding anyUnder
+  works-long e = let a = neither (ltb p n) _ e in rw (a .0, neither (ltb y n) false (a .1) .0)
+
+-- the highest figures, the working lists and the old set, by their lengths
+pub others-short : (n : ℕ) (blocks p y : List ℕ) (old : NumberSet) (fault : Bool) →
+    fault ≡ (ltb (length blocks) (blockCount n) || anyUnder n (length p ∷ length y ∷ map length (setLists old))) →
+    fault ≡ (blocksFault n blocks || anyShorter n (p ∷ y ∷ setLists old))
+unfolding blocksFault
+others-short n blocks p y old fault e = e ∙ rw (under-lengths n (p ∷ y ∷ setLists old))
 
 -- ---- what an accepted step knows of a segment
 
@@ -116,12 +132,7 @@ set-decides false true false working true e = refl
 set-decides false true false working false e = or-true working
 set-decides false false river working blocks e = absurd (true≢false (sym e))
 
--- what the sweep is lent of the new set's lists, and of the state
-abbrev without : Columns → Columns
-without x =
-    let s = x .numbers in
-    Sweep.stepColumns plain (s .e) (s .g) (s .l) (s .a) (s .b) (s .k) (s .ks) (s .h) (s .m) (s .s) (x .cl) (x .cb)
-
+-- what the sweep is lent of the state
 abbrev still : State → State
 still s = Lent.state plain (s .channel) (s .storage) (s .sediment) (s .upstream) 0
 
@@ -156,7 +167,7 @@ module _ (n : ℕ) (old : NumberSet) (x : Columns) (state : State) (blocks : Lis
   step-tests = rw found (first-first (stateTests n x state unfit other u′ M) (test 15 (leb M (state .steps))) ∙ same-tests (riverFault n (setLists old)) refl)
 
   pub step-refused : (number : ℕ) (place : Code.Place) → first (finding ∷ test 15 (leb M (state .steps)) ∷ []) ≡ fails number (placeSays place) →
-      StepOutcome n old x state blocks lent u′ M (Refused number place) state blocks lent
+      StepOutcome n old x state blocks lent u′ M (Answer.Refused number place) state blocks lent
   unfolding stepAnswer stepState stepHighest stepWorking
   step-refused number place e = let e = sym step-tests ∙ e in record { answer = rw e; state = rw e; highest = rw e; working = rw e }
 
@@ -192,7 +203,7 @@ module _ (n : ℕ) (old : NumberSet) (x : Columns) (state : State) (blocks : Lis
         (at-most _ (neither (outside concentration (state .upstream)) (ltb mostSteps (state .steps)) (scalars .0) .0), at-most u′ (scalars .1))
 
     -- what the sweep asks; Kd, the start figures and the count take no part in it
-    pub step-ready : Sweep.Ready n old (without x) (still state) lent u′
+    pub step-ready : Sweep.Ready n old x (still state) lent u′
     unfolding figuresAt pairAt
     step-ready =
         let columns = columns-long n x (stateLists state) (known .river) in
@@ -215,16 +226,16 @@ module _ (n : ℕ) (old : NumberSet) (x : Columns) (state : State) (blocks : Lis
         }
 
     -- after the sweep the channel list still has an entry for each segment, and that of the highest figures one for each block
-    pub blocks-ready : (c z w p y : List ℕ) → Sweep.Stepped n old (without x) (still state) lent u′ c z w p y →
+    pub blocks-ready : (c z w p y : List ℕ) → Sweep.Stepped n old x (still state) lent u′ c z w p y →
         (n ≤ mostSegments) × (n ≤ length c) × (blockCount n ≤ length blocks)
     blocks-ready c z w p y done =
         let lists = columnLists x ++ stateLists state in
-        let new = map (λ (f : Figures). f .c) (stepped (state .upstream) u′ (pairsOf n old (without x)) (figuresOf n (still state))) in
+        let new = map (λ (f : Figures). f .c) (stepped (state .upstream) u′ (pairsOf n old x) (figuresOf n (still state))) in
         let long = figures-long n x (state .channel) (state .storage) (state .sediment) (known .river) in
         (counted n lists (known .river) .1, rw (done .state-after .of-channel) (le-trans (long .channel) (over-long new (state .channel))), blocks-long n blocks (fit .0))
 
-    pub step-accepted : (c z w p y left : List ℕ) → Sweep.Stepped n old (without x) (still state) lent u′ c z w p y → left ≡ over (highestOf n c) blocks →
-        StepOutcome n old x state blocks lent u′ M (Stepped (record { upstream = u′; steps = state .steps + 1 }))
+    pub step-accepted : (c z w p y left : List ℕ) → Sweep.Stepped n old x (still state) lent u′ c z w p y → left ≡ over (highestOf n c) blocks →
+        StepOutcome n old x state blocks lent u′ M (Answer.Accepted (record { upstream = u′; steps = state .steps + 1 }))
         (Lent.state plain c z w u′ (state .steps + 1)) left (Lent.working plain p y)
     unfolding stepAnswer stepState stepHighest stepWorking writeFigures figuresAt pairAt
     step-accepted c z w p y left done filled =

@@ -18,12 +18,6 @@ pub fn copy(n: usize, from: &[u32], to: &mut [u32])
     }
 }
 
-fn product(a: u32, b: u32) -> u64
-    ensures { λ r. ⌜ r ≡ a * b ⌝ }
-{
-    (a as u64) * (b as u64)
-}
-
 // The figures of the segment at i, which counts from 0.
 pub fn at(i: usize, kd: &[u32], channel: &[u32], storage: &[u32], sediment: &[u32]) -> Figures
     requires { ⌜ (i < length (now kd)) × (i < length (now channel)) × (i < length (now storage)) × (i < length (now sediment)) ⌝ }
@@ -36,6 +30,6 @@ pub fn at(i: usize, kd: &[u32], channel: &[u32], storage: &[u32], sediment: &[u3
     Figures {
         channel: channel[i],
         storage: storage[i],
-        sediment: product(kd[i], sediment[i]),
+        sediment: rounding::product(kd[i], sediment[i]),
     }
 }

@@ -1,25 +1,33 @@
 // The public calls of the documents on a river that stands in lent lists: start, step and report.
 ghost use mathlib.Core.Path.{_≡_};
-ghost use mathlib.Core.List.{[], _∷_};
+ghost use mathlib.Core.Bool.{_||_};
+ghost use mathlib.Core.List.{[], _∷_, map};
 ghost use Prim.Native.Nat.{ℕ};
-ghost use lib.Dec.{leb};
+ghost use lib.Dec.{leb, ltb};
+ghost use lib.ListN.{length};
+ghost use Rattle.lists.specs.Lists.{anyUnder};
+ghost use Rattle.model.specs.Highest.{blockCount};
+ghost use Rattle.model.specs.State.{setLists};
 ghost use Rattle.model.specs.Refusals.{test, first};
 ghost use Rattle.model.specs.Calls.{reportAnswer};
 ghost use Rattle.terms.specs.Says.{findingSays};
 ghost use Rattle.lists.specs.Lent.{entry, exit};
-ghost use Rattle.terms.specs.Lent.{set, columns, state, working};
-ghost use Rattle.otis.specs.Says.{startSays, stepSays, reportSays};
+ghost use Rattle.terms.specs.Lent.{setOf, columnsOf, state, working};
+ghost use Rattle.otis.specs.Says.{answerSays, reportSays};
 ghost use Rattle.otis.specs.Outcomes.{stateAfter, StartOutcome, StepOutcome};
-use calltests::limits::HIGHEST;
-use calltests::limits::outside;
-use calltests::segments::SEGMENTS;
-use calltests::segments::or_short;
 use calltests::segments::set_at_fault;
 use calltests::segments::set_short;
 use calltests::start_test;
 use calltests::state_test;
+use limits::Range;
+use limits::outside;
+use lists::any_short;
 use terms::Finding;
+use terms::Fixed;
+use terms::KD;
 use terms::Place;
+use terms::START;
+use terms::Set;
 
 pub mod entries;
 
@@ -29,13 +37,9 @@ pub struct River {
     pub steps: u32,
 }
 
-pub enum Start {
-    Started(River),
-    Refused(u32, Place),
-}
-
-pub enum Step {
-    Stepped(River),
+// The answer of a start or a step.
+pub enum Answer {
+    Accepted(River),
     Refused(u32, Place),
 }
 
@@ -56,55 +60,31 @@ impl River {
     pub const SCALE: u64 = rounding::WHOLE;
 
     // The highest concentration, in ng/L.
-    pub const HIGHEST: u32 = HIGHEST;
+    pub const HIGHEST: u32 = limits::HIGHEST;
 
     // The segment limit.
-    pub const SEGMENTS: u32 = SEGMENTS;
+    pub const SEGMENTS: u32 = limits::SEGMENTS.high;
 
     // "A start sets C, Z and W to the start figure, U to that of step 0 and the count to 0": of n segments, whatever U and count the
     // state had. `highest` has the highest channel figure of each sixteen segments afterwards.
     pub fn start(
         n: u32,
-        e: &[u32],
-        g: &[u32],
-        l: &[u32],
-        a: &[u32],
-        b: &[u32],
-        k: &[u32],
-        ks: &[u32],
-        h: &[u32],
-        m: &[u32],
-        s: &[u32],
-        cl: &[u32],
-        cb: &[u32],
-        kd: &[u32],
-        start: &[u32],
+        numbers: Set,
+        fixed: Fixed,
         channel: &mut [u32],
         storage: &mut [u32],
         sediment: &mut [u32],
         highest: &mut [u32],
         u: u32,
-    ) -> Start
-        ensures { λ r. ⌜ ((upstream steps : ℕ) → StartOutcome n (columns entry e g l a b k ks h m s cl cb kd start)
+    ) -> Answer
+        ensures { λ r. ⌜ ((upstream steps : ℕ) → StartOutcome n (columnsOf (numbers .entry) (fixed .entry))
             (state entry channel storage sediment upstream steps) (entry highest) u r
-            (stateAfter exit channel storage sediment (startSays r) upstream steps) (exit highest)) ⌝ }
+            (stateAfter exit channel storage sediment (answerSays r) upstream steps) (exit highest)) ⌝ }
     {
         let found = start_test(
             n,
-            e,
-            g,
-            l,
-            a,
-            b,
-            k,
-            ks,
-            h,
-            m,
-            s,
-            cl,
-            cb,
-            kd,
-            start,
+            numbers,
+            fixed,
             &channel[..],
             &storage[..],
             &sediment[..],
@@ -114,48 +94,28 @@ impl River {
         match found {
             Finding::Passes => {
                 let count = n as usize;
-                entries::copy(count, start, &mut channel[..]);
-                entries::copy(count, start, &mut storage[..]);
-                entries::copy(count, start, &mut sediment[..]);
+                let figures = fixed[START];
+                entries::copy(count, figures, &mut channel[..]);
+                entries::copy(count, figures, &mut storage[..]);
+                entries::copy(count, figures, &mut sediment[..]);
                 blocks::fill(count, &channel[..], &mut highest[..]);
-                Start::Started(River {
+                Answer::Accepted(River {
                     upstream: u,
                     steps: 0,
                 })
             }
-            Finding::Fails(number, place) => Start::Refused(number, place),
+            Finding::Fails(number, place) => Answer::Refused(number, place),
         }
     }
 
     // One step from the state's U to U', which is `u`, where fewer than M steps are done; `steps` is M. p and y are working lists, `highest` is
-    // as in a start. The ten lists with 0 are the set of the step's old side, the plain ones that of its new side.
+    // as in a start. `old` and `new` are the sets of the step's two sides.
     pub fn step(
         self,
         n: u32,
-        e0: &[u32],
-        g0: &[u32],
-        l0: &[u32],
-        a0: &[u32],
-        b0: &[u32],
-        k0: &[u32],
-        ks0: &[u32],
-        h0: &[u32],
-        m0: &[u32],
-        s0: &[u32],
-        e: &[u32],
-        g: &[u32],
-        l: &[u32],
-        a: &[u32],
-        b: &[u32],
-        k: &[u32],
-        ks: &[u32],
-        h: &[u32],
-        m: &[u32],
-        s: &[u32],
-        cl: &[u32],
-        cb: &[u32],
-        kd: &[u32],
-        start: &[u32],
+        old: Set,
+        new: Set,
+        fixed: Fixed,
         channel: &mut [u32],
         storage: &mut [u32],
         sediment: &mut [u32],
@@ -164,43 +124,18 @@ impl River {
         y: &mut [u64],
         u: u32,
         steps: u32,
-    ) -> Step
-        ensures { λ r. ⌜ StepOutcome n (set entry e0 g0 l0 a0 b0 k0 ks0 h0 m0 s0)
-            (columns entry e g l a b k ks h m s cl cb kd start)
+    ) -> Answer
+        ensures { λ r. ⌜ StepOutcome n (setOf (old .entry)) (columnsOf (new .entry) (fixed .entry))
             (state entry channel storage sediment (self .upstream) (self .steps)) (entry highest) (working entry p y) u steps r
-            (stateAfter exit channel storage sediment (stepSays r) (self .upstream) (self .steps)) (exit highest) (working exit p y) ⌝ }
+            (stateAfter exit channel storage sediment (answerSays r) (self .upstream) (self .steps)) (exit highest) (working exit p y) ⌝ }
     {
         let count = n as usize;
-        let unfit = or_short(
-            blocks::count(n),
-            highest.len(),
-            or_short(
-                count,
-                p.len(),
-                or_short(
-                    count,
-                    y.len(),
-                    set_short(count, e0, g0, l0, a0, b0, k0, ks0, h0, m0, s0),
-                ),
-            ),
-        );
-        let other = set_at_fault(count, e0, g0, l0, a0, b0, k0, ks0, h0, m0, s0);
+        let unfit = others_short(n, highest.len(), p.len(), y.len(), old);
+        let other = set_at_fault(count, old);
         let state = state_test(
             n,
-            e,
-            g,
-            l,
-            a,
-            b,
-            k,
-            ks,
-            h,
-            m,
-            s,
-            cl,
-            cb,
-            kd,
-            start,
+            new,
+            fixed,
             &channel[..],
             &storage[..],
             &sediment[..],
@@ -218,28 +153,9 @@ impl River {
                     count,
                     self.upstream,
                     u,
-                    e0,
-                    g0,
-                    l0,
-                    a0,
-                    b0,
-                    k0,
-                    ks0,
-                    h0,
-                    m0,
-                    s0,
-                    e,
-                    g,
-                    l,
-                    a,
-                    b,
-                    k,
-                    ks,
-                    h,
-                    m,
-                    s,
-                    cl,
-                    cb,
+                    old,
+                    new,
+                    fixed,
                     &mut channel[..],
                     &mut storage[..],
                     &mut sediment[..],
@@ -248,12 +164,12 @@ impl River {
                 );
                 blocks::fill(count, &channel[..], &mut highest[..]);
                 let done = self.steps + 1;
-                Step::Stepped(River {
+                Answer::Accepted(River {
                     upstream: u,
                     steps: done,
                 })
             }
-            Finding::Fails(number, place) => Step::Refused(number, place),
+            Finding::Fails(number, place) => Answer::Refused(number, place),
         }
     }
 
@@ -261,45 +177,21 @@ impl River {
     pub fn report(
         self,
         n: u32,
-        e: &[u32],
-        g: &[u32],
-        l: &[u32],
-        a: &[u32],
-        b: &[u32],
-        k: &[u32],
-        ks: &[u32],
-        h: &[u32],
-        m: &[u32],
-        s: &[u32],
-        cl: &[u32],
-        cb: &[u32],
-        kd: &[u32],
-        start: &[u32],
+        numbers: Set,
+        fixed: Fixed,
         channel: &[u32],
         storage: &[u32],
         sediment: &[u32],
         segment: u32,
     ) -> Report
-        ensures { λ r. ⌜ reportSays r ≡ reportAnswer n (columns entry e g l a b k ks h m s cl cb kd start)
+        ensures { λ r. ⌜ reportSays r ≡ reportAnswer n (columnsOf (numbers .entry) (fixed .entry))
             (state entry channel storage sediment (self .upstream) (self .steps)) segment ⌝ }
     {
-        let unfit = outside(1, n as u64, segment as u64);
+        let unfit = outside(Range { low: 1, high: n }, segment as u64);
         let found = state_test(
             n,
-            e,
-            g,
-            l,
-            a,
-            b,
-            k,
-            ks,
-            h,
-            m,
-            s,
-            cl,
-            cb,
-            kd,
-            start,
+            numbers,
+            fixed,
             channel,
             storage,
             sediment,
@@ -313,11 +205,24 @@ impl River {
         match found {
             Finding::Passes => {
                 let i = segment as usize - 1;
-                Report::Reported(entries::at(i, kd, channel, storage, sediment))
+                Report::Reported(entries::at(i, fixed[KD], channel, storage, sediment))
             }
             Finding::Fails(number, place) => Report::Refused(number, place),
         }
     }
+}
+
+// Test 13 of what a step alone is lent: the highest figures and the working lists, by their lengths, and the old set.
+fn others_short(n: u32, highest: usize, p: usize, y: usize, old: Set) -> bool
+    ensures { λ r. ⌜ r ≡ (ltb highest (blockCount n) || anyUnder n (p ∷ y ∷ map length (setLists (setOf (old .entry))))) ⌝ }
+{
+    if highest < blocks::count(n) {
+        return true;
+    }
+    if any_short(n as usize, &[p, y]) {
+        return true;
+    }
+    set_short(n as usize, old)
 }
 
 // Test 15 behind the others: "M or more steps are done".

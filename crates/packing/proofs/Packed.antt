@@ -12,8 +12,8 @@ use Rattle.lists.proofs.Over.{Filling, filling-turn, filling-end}
 use Rattle.lists.proofs.Stretch.{splice-back}
 use Rattle.model.specs.Ranges.{mostSegments, mostRivers}
 use Rattle.model.specs.Pool.{Slot, isOpen, vacant, slotAt, openSegments, tableFault, coveredBelow, kept, packed, moved}
-use Rattle.stretches.proofs.Packing.{packed-splice, below-open}
-use Rattle.stretches.proofs.Tables.{fault-apart}
+use Rattle.pool_laws.proofs.Packing.{packed-splice, below-open}
+use Rattle.pool_laws.proofs.Tables.{fault-apart}
 use Rattle.terms.specs.Lent.{slotIn, tableIn}
 
 -- figures written over a list of as many entries are then the list

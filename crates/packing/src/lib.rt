@@ -10,15 +10,16 @@ ghost use Rattle.lists.specs.Lent.{entry, exit};
 ghost use Rattle.model.specs.Ranges.{mostSegments, mostRivers};
 ghost use Rattle.model.specs.Pool.{slotAt, openSegments, tableFault, holds, covered, coveredBelow, kept, packed, moved, newSlot};
 ghost use Rattle.terms.specs.Lent.{tableIn};
-ghost use Rattle.slots.specs.Says.{slotSays};
+ghost use Rattle.pool_table.specs.Says.{slotSays};
+use limits::MOST_SEGMENTS;
+use limits::RIVERS;
 use otis::entries::copy;
-use slots::RIVERS;
-use slots::SEGMENTS;
-use slots::Slot;
-use slots::end_of;
-use slots::is_open;
-use slots::put;
-use slots::taken;
+use pool_table::Slot;
+use pool_table::Table;
+use pool_table::end_of;
+use pool_table::is_open;
+use pool_table::put;
+use pool_table::taken;
 
 // Segment s of the shared lists is the slot's.
 fn holds_at(x: Slot, s: u32) -> bool
@@ -26,7 +27,7 @@ fn holds_at(x: Slot, s: u32) -> bool
 {
     if is_open(x) {
         if x.first <= s {
-            return (s as u64) < end_of(x);
+            return (s as usize) < end_of(x);
         }
         return false;
     }
@@ -34,7 +35,7 @@ fn holds_at(x: Slot, s: u32) -> bool
 }
 
 // It is an open river's.
-fn is_covered(table: [u32; 40], s: u32) -> bool
+fn is_covered(table: Table, s: u32) -> bool
     ensures { λ r. ⌜ r ≡ covered (tableIn table) s ⌝ }
 {
     let mut i: usize = 0;
@@ -58,7 +59,7 @@ fn next_if(is: bool, to: u32) -> u32
 }
 
 // How many of the first `end` segments are open rivers'.
-fn covered_below(table: [u32; 40], end: u32) -> u32
+fn covered_below(table: Table, end: u32) -> u32
     requires { ⌜ end ≤ mostSegments ⌝ }
     ensures { λ r. ⌜ r ≡ coveredBelow (tableIn table) end ⌝ }
 {
@@ -84,14 +85,14 @@ fn keep_at(list: &mut [u32], is: bool, to: u32, s: u32)
 }
 
 // The open rivers' entries to the front of a shared list, in their order; how many they are.
-fn pack(table: [u32; 40], list: &mut [u32]) -> u32
+fn pack(table: Table, list: &mut [u32]) -> u32
     requires { ⌜ mostSegments ≤ length (now list) ⌝ }
     ensures list { λ _. ⌜ exit list ≡ over (kept (tableIn table) mostSegments (entry list)) (entry list) ⌝ }
     ensures count { λ r. ⌜ r ≡ coveredBelow (tableIn table) mostSegments ⌝ }
 {
     let mut to: u32 = 0;
     let mut s: u32 = 0;
-    while s < SEGMENTS {
+    while s < MOST_SEGMENTS {
         let is = is_covered(table, s);
         keep_at(list, is, to, s);
         to = next_if(is, to);
@@ -101,7 +102,7 @@ fn pack(table: [u32; 40], list: &mut [u32]) -> u32
 }
 
 // A shared list as an accepted opening leaves it: the open rivers' entries, and behind them the first n of these figures.
-pub fn pack_with(table: [u32; 40], n: usize, figures: &[u32], list: &mut [u32])
+pub fn pack_with(table: Table, n: usize, figures: &[u32], list: &mut [u32])
     requires { ⌜ (n + openSegments (tableIn table) ≤ mostSegments) × (n ≤ length (now figures)) × (mostSegments ≤ length (now list)) ⌝ }
     ensures { λ _. ⌜ exit list ≡ packed (tableIn table) (tab 0 n (λ i. getD (entry figures) i 0)) (entry list) ⌝ }
 {
@@ -111,7 +112,7 @@ pub fn pack_with(table: [u32; 40], n: usize, figures: &[u32], list: &mut [u32])
 }
 
 // The slot at place i as its river has moved.
-fn moved_slot(table: [u32; 40], i: usize) -> Slot
+fn moved_slot(table: Table, i: usize) -> Slot
     requires { ⌜ (i < mostRivers) × (tableFault (tableIn table) ≡ false) ⌝ }
     ensures { λ r. ⌜ slotSays r ≡ moved (tableIn table) (slotAt (tableIn table) i) ⌝ }
 {
@@ -129,7 +130,7 @@ fn moved_slot(table: [u32; 40], i: usize) -> Slot
 }
 
 // All of them.
-fn move_slots(table: &mut [u32; 40])
+fn move_slots(table: &mut Table)
     requires { ⌜ tableFault (tableIn (now table)) ≡ false ⌝ }
     ensures { λ _. ⌜ tableIn (exit table) ≡ map (moved (tableIn (entry table))) (tableIn (entry table)) ⌝ }
 {
@@ -142,11 +143,11 @@ fn move_slots(table: &mut [u32; 40])
 }
 
 // The table of an accepted opening: the open rivers as they have moved, and the new one, of n segments, at place i.
-pub fn pack_table(table: &mut [u32; 40], i: usize, n: u32, u: u32)
+pub fn pack_table(table: &mut Table, i: usize, n: u32, u: u32)
     requires { ⌜ (i < mostRivers) × (tableFault (tableIn (now table)) ≡ false) ⌝ }
     ensures { λ _. ⌜ tableIn (exit table) ≡ set (map (moved (tableIn (entry table))) (tableIn (entry table))) i (newSlot (tableIn (entry table)) n u) ⌝ }
 {
-    let first = covered_below(*table, SEGMENTS);
+    let first = covered_below(*table, MOST_SEGMENTS);
     move_slots(table);
     put(
         table,

@@ -20,9 +20,9 @@ use Rattle.model.specs.Highest.{blockCount, highestAfter}
 use Rattle.model.specs.Calls.{startFigures}
 use Rattle.model.specs.Pool.{Slot, Pool, openSegments, tableFault, openTests, openAnswer, openColumns, poolAfterOpen, poolOpen, openHighest}
 use Rattle.model.proofs.Refusals.{all-pass, first-of, first-both}
-use Rattle.stretches.proofs.Openings.{newTests, lastTests, opening-passed}
-use Rattle.stretches.proofs.Pools.{shared-long}
-use Rattle.stretches.proofs.Tables.{room-clear}
+use Rattle.pool_laws.proofs.Openings.{newTests, lastTests, opening-passed}
+use Rattle.pool_laws.proofs.Pools.{shared-long}
+use Rattle.pool_laws.proofs.Tables.{room-clear}
 use Rattle.course.proofs.River.{few}
 use Rattle.assembly.specs.Fit.{Fit}
 use Rattle.assembly.proofs.LoadTests.{fit}

@@ -13,13 +13,12 @@ use Rattle.model.specs.Calls.{River, Working, startTests, startAnswer, startSta
 use Rattle.model.specs.Pool.{Slot, endOf, slotOf, Pool, stateOf, poolTests, poolAfter, poolStartTests, poolStartAnswer, poolStart, poolStartHighest}
 use Rattle.model.specs.Pool.{poolStepTests, poolStepAnswer, poolStep, poolStepHighest, poolStepWorking, poolReportTests, poolReportAnswer}
 use Rattle.model.proofs.Refusals.{first-front}
-use Rattle.stretches.proofs.Answers.{tests-clear, start-alone, start-highest-alone, step-alone, step-highest-alone, works-alone, report-alone}
-use Rattle.stretches.proofs.Pools.{shared-long}
-use Rattle.stretches.proofs.Tables.{number-clear, fault-apart}
+use Rattle.pool_laws.proofs.Answers.{tests-clear, start-alone, start-highest-alone, step-alone, step-highest-alone, works-alone, report-alone}
+use Rattle.pool_laws.proofs.Pools.{shared-long}
+use Rattle.pool_laws.proofs.Tables.{number-clear, fault-apart}
 use Rattle.terms.specs.Lent.{state}
-use Rattle.otis.specs.declared.Start.{Start}
-use Rattle.otis.specs.declared.Step.{Step}
-use Rattle.otis.specs.Says.{startSays, stepSays}
+use Rattle.otis.specs.declared.Answer.{Answer}
+use Rattle.otis.specs.Says.{answerSays}
 use Rattle.otis.specs.Outcomes.{stateAfter, StartOutcome, StepOutcome}
 use Rattle.pool.specs.Left.{tableAfter}
 
@@ -108,21 +107,21 @@ unfolding startState
 start-refused n cols s highest u e = rw e
 
 module _ (p : Pool) (number : ℕ) (x : Slot) (e : x ≡ slotOf (p .table) number) (pass : first (poolTests p number) ≡ passes)
-    (cols : Columns) (highest : List ℕ) (u : ℕ) (r : Start) (c z w left : List ℕ)
-    (o : (upstream steps : ℕ) → StartOutcome (x .segments) cols (parts x (p .channel) (p .storage) (p .sediment) upstream steps) highest u r (stateAfter plain c z w (startSays r) upstream steps) left) where
-  begun : StartOutcome (slotOf (p .table) number .segments) cols (stateOf p number) highest u r (stateAfter plain c z w (startSays r) (x .upstream) (x .steps)) left
+    (cols : Columns) (highest : List ℕ) (u : ℕ) (r : Answer) (c z w left : List ℕ)
+    (o : (upstream steps : ℕ) → StartOutcome (x .segments) cols (parts x (p .channel) (p .storage) (p .sediment) upstream steps) highest u r (stateAfter plain c z w (answerSays r) upstream steps) left) where
+  begun : StartOutcome (slotOf (p .table) number .segments) cols (stateOf p number) highest u r (stateAfter plain c z w (answerSays r) (x .upstream) (x .steps)) left
   begun = rw (parts-are p number x e, ap (λ (y : Slot). y .segments) e) at (o (x .upstream) (x .steps))
 
-  pub start-answer : startSays r ≡ poolStartAnswer p number cols highest u
+  pub start-answer : answerSays r ≡ poolStartAnswer p number cols highest u
   start-answer = begun .answer ∙ sym (start-alone p number pass cols highest u)
 
   pub start-highest : left ≡ poolStartHighest p number cols highest u
   start-highest = begun .highest ∙ sym (start-highest-alone p number pass cols highest u)
 
-  pub start-pool : (table : List Slot) → table ≡ tableAfter (startSays r) (p .table) (number - 1) x → returned p x table c z w ≡ poolStart p number cols highest u
+  pub start-pool : (table : List Slot) → table ≡ tableAfter (answerSays r) (p .table) (number - 1) x → returned p x table c z w ≡ poolStart p number cols highest u
   unfolding poolStart
   start-pool table t =
-      written p number x e (startSays r) c z w table t
+      written p number x e (answerSays r) c z w table t
       (λ k place q. begun .state ∙ start-refused _ cols (stateOf p number) highest u (sym (begun .answer) ∙ q))
       ∙ rw (begun .state, start-answer)
 
@@ -134,21 +133,21 @@ unfolding stepState
 step-refused n old new s highest working u′ M e = rw e
 
 module _ (p : Pool) (number : ℕ) (x : Slot) (e : x ≡ slotOf (p .table) number) (pass : first (poolTests p number) ≡ passes)
-    (old : NumberSet) (new : Columns) (highest : List ℕ) (lent : Working) (u′ M : ℕ) (r : Step) (c z w left : List ℕ) (worked : Working)
-    (o : StepOutcome (x .segments) old new (parts x (p .channel) (p .storage) (p .sediment) (x .upstream) (x .steps)) highest lent u′ M r (stateAfter plain c z w (stepSays r) (x .upstream) (x .steps)) left worked) where
-  stepped : StepOutcome (slotOf (p .table) number .segments) old new (stateOf p number) highest lent u′ M r (stateAfter plain c z w (stepSays r) (x .upstream) (x .steps)) left worked
+    (old : NumberSet) (new : Columns) (highest : List ℕ) (lent : Working) (u′ M : ℕ) (r : Answer) (c z w left : List ℕ) (worked : Working)
+    (o : StepOutcome (x .segments) old new (parts x (p .channel) (p .storage) (p .sediment) (x .upstream) (x .steps)) highest lent u′ M r (stateAfter plain c z w (answerSays r) (x .upstream) (x .steps)) left worked) where
+  stepped : StepOutcome (slotOf (p .table) number .segments) old new (stateOf p number) highest lent u′ M r (stateAfter plain c z w (answerSays r) (x .upstream) (x .steps)) left worked
   stepped = rw (parts-are p number x e, ap (λ (y : Slot). y .segments) e) at o
 
-  pub step-answer : stepSays r ≡ poolStepAnswer p number old new highest lent u′ M
+  pub step-answer : answerSays r ≡ poolStepAnswer p number old new highest lent u′ M
   step-answer = stepped .answer ∙ sym (step-alone p number pass old new highest lent u′ M)
 
   pub step-highest : left ≡ poolStepHighest p number old new highest lent u′ M
   step-highest = stepped .highest ∙ sym (step-highest-alone p number pass old new highest lent u′ M)
 
-  pub step-pool : (table : List Slot) → table ≡ tableAfter (stepSays r) (p .table) (number - 1) x → returned p x table c z w ≡ poolStep p number old new highest lent u′ M
+  pub step-pool : (table : List Slot) → table ≡ tableAfter (answerSays r) (p .table) (number - 1) x → returned p x table c z w ≡ poolStep p number old new highest lent u′ M
   unfolding poolStep
   step-pool table t =
-      written p number x e (stepSays r) c z w table t
+      written p number x e (answerSays r) c z w table t
       (λ k place q. stepped .state ∙ step-refused _ old new (stateOf p number) highest lent u′ M (sym (stepped .answer) ∙ q))
       ∙ rw (stepped .state, step-answer)
 

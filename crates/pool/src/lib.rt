@@ -5,6 +5,7 @@ ghost use mathlib.Core.List.{[], _∷_};
 ghost use Prim.Native.Nat.{_+_, _<_, _≤_};
 ghost use lib.Dec.{ltb};
 ghost use lib.ListN.{length};
+ghost use Rattle.lists.specs.Lists.{anyUnder};
 ghost use Rattle.lists.specs.Lent.{entry, exit};
 ghost use Rattle.model.specs.Ranges.{outside, concentration, mostSegments, mostRivers};
 ghost use Rattle.model.specs.Sheet.{segmentCount};
@@ -12,48 +13,39 @@ ghost use Rattle.model.specs.Highest.{blockCount};
 ghost use Rattle.model.specs.Refusals.{passes, test, first};
 ghost use Rattle.model.specs.Pool.{openSegments, roomFault, tableFault, poolTests, poolStartAnswer, poolStart, poolStartHighest, poolStepAnswer, poolStep, poolStepHighest, poolStepWorking, poolReportAnswer, closeFinding, closedTable, openAnswer, openColumns, poolOpen, openHighest};
 ghost use Rattle.terms.specs.Says.{findingSays};
-ghost use Rattle.terms.specs.Lent.{set, columns, working, tableIn, pool};
+ghost use Rattle.terms.specs.Lent.{columns, setOf, columnsOf, working, tableIn, pool};
 ghost use Rattle.assembly.specs.Says.{loadSays};
-ghost use Rattle.otis.specs.Says.{startSays, stepSays, reportSays};
-ghost use Rattle.slots.specs.Says.{slotSays};
+ghost use Rattle.otis.specs.Says.{answerSays, reportSays};
+ghost use Rattle.pool_table.specs.Says.{slotSays};
 ghost use Rattle.pool.specs.Left.{tableAfter, WhereLoaded, listAfterOpen, highestAfterOpen, tableAfterOpen};
 use assembly::Load;
 use assembly::Loaded;
 use assembly::list_test;
 use assembly::river_test;
-use calltests::limits::HIGHEST;
+use limits::HIGHEST;
+use limits::SEGMENTS;
+use lists::any_short;
+use otis::Answer;
 use otis::Report;
 use otis::River;
-use otis::Start;
-use otis::Step;
 use packing::pack_table;
 use packing::pack_with;
+use pool_table::Slot;
+use pool_table::Table;
+use pool_table::number_fault;
+use pool_table::put;
+use pool_table::room_fault;
+use pool_table::slot_with;
+use pool_table::table_fault;
+use pool_table::taken;
 use sheet::fields::segment_count;
-use slots::SEGMENTS;
-use slots::Slot;
-use slots::number_fault;
-use slots::put;
-use slots::room_fault;
-use slots::slot_with;
-use slots::table_fault;
-use slots::taken;
 use terms::Finding;
+use terms::Fixed;
 use terms::Place;
+use terms::Set;
 
 // The entries of a shared list that 13 wants.
-const ENTRIES: usize = SEGMENTS as usize;
-
-fn any_short(channel: usize, storage: usize, sediment: usize) -> bool
-    ensures { λ r. ⌜ r ≡ (ltb channel mostSegments || (ltb storage mostSegments || (ltb sediment mostSegments || false))) ⌝ }
-{
-    if channel < ENTRIES {
-        return true;
-    }
-    if storage < ENTRIES {
-        return true;
-    }
-    sediment < ENTRIES
-}
+const ENTRIES: usize = SEGMENTS.high as usize;
 
 // 18, and then 13 of the shared lists.
 fn pool_test(
@@ -61,72 +53,52 @@ fn pool_test(
     channel: &[u32],
     storage: &[u32],
     sediment: &[u32],
-    table: &[u32; 40],
+    table: &Table,
 ) -> Finding
     ensures { λ r. ⌜ findingSays r ≡ first (poolTests (pool entry channel storage sediment table) river) ⌝ }
 {
     if number_fault(*table, river) {
         return Finding::Fails(18, Place::Nothing);
     }
-    if any_short(channel.len(), storage.len(), sediment.len()) {
+    if any_short(ENTRIES, &[channel.len(), storage.len(), sediment.len()]) {
         return Finding::Fails(13, Place::Nothing);
     }
     Finding::Passes
 }
 
-// Puts U and the count of an accepted start into the river's slot; of a refused one nothing.
-fn keep_started(answer: Start, table: &mut [u32; 40], i: usize, x: Slot)
+// Puts U and the count of an accepted start or step into the river's slot; of a refused one nothing.
+fn keep(answer: Answer, table: &mut Table, i: usize, x: Slot)
     requires { ⌜ i < mostRivers ⌝ }
-    ensures { λ _. ⌜ tableIn (exit table) ≡ tableAfter (startSays answer) (tableIn (entry table)) i (slotSays x) ⌝ }
+    ensures { λ _. ⌜ tableIn (exit table) ≡ tableAfter (answerSays answer) (tableIn (entry table)) i (slotSays x) ⌝ }
 {
     match answer {
-        Start::Started(river) => put(table, i, slot_with(x, river.upstream, river.steps)),
-        Start::Refused(_, _) => {}
-    }
-}
-
-// The same of a step.
-fn keep_stepped(answer: Step, table: &mut [u32; 40], i: usize, x: Slot)
-    requires { ⌜ i < mostRivers ⌝ }
-    ensures { λ _. ⌜ tableIn (exit table) ≡ tableAfter (stepSays answer) (tableIn (entry table)) i (slotSays x) ⌝ }
-{
-    match answer {
-        Step::Stepped(river) => put(table, i, slot_with(x, river.upstream, river.steps)),
-        Step::Refused(_, _) => {}
+        Answer::Accepted(river) => put(table, i, slot_with(x, river.upstream, river.steps)),
+        Answer::Refused(_, _) => {}
     }
 }
 
 // A start of an open river: tests 18, 13 and 14. `highest` is the river's own list.
 pub fn start(
     river: u32,
-    e: &[u32],
-    g: &[u32],
-    l: &[u32],
-    a: &[u32],
-    b: &[u32],
-    k: &[u32],
-    ks: &[u32],
-    h: &[u32],
-    m: &[u32],
-    s: &[u32],
-    cl: &[u32],
-    cb: &[u32],
-    kd: &[u32],
-    start: &[u32],
+    numbers: Set,
+    fixed: Fixed,
     channel: &mut [u32],
     storage: &mut [u32],
     sediment: &mut [u32],
     highest: &mut [u32],
-    table: &mut [u32; 40],
+    table: &mut Table,
     u: u32,
-) -> Start
-    ensures answer { λ r. ⌜ startSays r ≡ poolStartAnswer (pool entry channel storage sediment table) river (columns entry e g l a b k ks h m s cl cb kd start) (entry highest) u ⌝ }
-    ensures pool { λ r. ⌜ pool exit channel storage sediment table ≡ poolStart (pool entry channel storage sediment table) river (columns entry e g l a b k ks h m s cl cb kd start) (entry highest) u ⌝ }
-    ensures highest { λ r. ⌜ exit highest ≡ poolStartHighest (pool entry channel storage sediment table) river (columns entry e g l a b k ks h m s cl cb kd start) (entry highest) u ⌝ }
+) -> Answer
+    ensures answer { λ r. ⌜ answerSays r ≡ poolStartAnswer (pool entry channel storage sediment table) river
+        (columnsOf (numbers .entry) (fixed .entry)) (entry highest) u ⌝ }
+    ensures pool { λ r. ⌜ pool exit channel storage sediment table ≡ poolStart (pool entry channel storage sediment table) river
+        (columnsOf (numbers .entry) (fixed .entry)) (entry highest) u ⌝ }
+    ensures highest { λ r. ⌜ exit highest ≡ poolStartHighest (pool entry channel storage sediment table) river
+        (columnsOf (numbers .entry) (fixed .entry)) (entry highest) u ⌝ }
 {
     let found = pool_test(river, &channel[..], &storage[..], &sediment[..], &*table);
     if let Finding::Fails(number, place) = found {
-        return Start::Refused(number, place);
+        return Answer::Refused(number, place);
     }
     let at = river as usize - 1;
     let x = taken(*table, at);
@@ -134,79 +106,46 @@ pub fn start(
     let end = first + (x.segments as usize);
     let answer = River::start(
         x.segments,
-        e,
-        g,
-        l,
-        a,
-        b,
-        k,
-        ks,
-        h,
-        m,
-        s,
-        cl,
-        cb,
-        kd,
-        start,
+        numbers,
+        fixed,
         &mut channel[first..end],
         &mut storage[first..end],
         &mut sediment[first..end],
         highest,
         u,
     );
-    keep_started(answer, table, at, x);
+    keep(answer, table, at, x);
     answer
 }
 
 // A step of an open river: tests 18, 13, 14 and 15.
 pub fn step(
     river: u32,
-    e0: &[u32],
-    g0: &[u32],
-    l0: &[u32],
-    a0: &[u32],
-    b0: &[u32],
-    k0: &[u32],
-    ks0: &[u32],
-    h0: &[u32],
-    m0: &[u32],
-    s0: &[u32],
-    e: &[u32],
-    g: &[u32],
-    l: &[u32],
-    a: &[u32],
-    b: &[u32],
-    k: &[u32],
-    ks: &[u32],
-    h: &[u32],
-    m: &[u32],
-    s: &[u32],
-    cl: &[u32],
-    cb: &[u32],
-    kd: &[u32],
-    start: &[u32],
+    old: Set,
+    new: Set,
+    fixed: Fixed,
     channel: &mut [u32],
     storage: &mut [u32],
     sediment: &mut [u32],
     highest: &mut [u32],
-    table: &mut [u32; 40],
+    table: &mut Table,
     p: &mut [u64],
     y: &mut [u64],
     u: u32,
     steps: u32,
-) -> Step
-    ensures answer { λ r. ⌜ stepSays r ≡ poolStepAnswer (pool entry channel storage sediment table) river (set entry e0 g0 l0 a0 b0 k0 ks0 h0 m0 s0)
-        (columns entry e g l a b k ks h m s cl cb kd start) (entry highest) (working entry p y) u steps ⌝ }
+) -> Answer
+    ensures answer { λ r. ⌜ answerSays r ≡ poolStepAnswer (pool entry channel storage sediment table) river
+        (setOf (old .entry)) (columnsOf (new .entry) (fixed .entry)) (entry highest) (working entry p y) u steps ⌝ }
     ensures pool { λ r. ⌜ pool exit channel storage sediment table ≡ poolStep (pool entry channel storage sediment table) river
-        (set entry e0 g0 l0 a0 b0 k0 ks0 h0 m0 s0) (columns entry e g l a b k ks h m s cl cb kd start) (entry highest) (working entry p y) u steps ⌝ }
-    ensures highest { λ r. ⌜ exit highest ≡ poolStepHighest (pool entry channel storage sediment table) river (set entry e0 g0 l0 a0 b0 k0 ks0 h0 m0 s0)
-        (columns entry e g l a b k ks h m s cl cb kd start) (entry highest) (working entry p y) u steps ⌝ }
-    ensures working { λ r. ⌜ working exit p y ≡ poolStepWorking (pool entry channel storage sediment table) river (set entry e0 g0 l0 a0 b0 k0 ks0 h0 m0 s0)
-        (columns entry e g l a b k ks h m s cl cb kd start) (entry highest) (working entry p y) u steps ⌝ }
+        (setOf (old .entry)) (columnsOf (new .entry) (fixed .entry)) (entry highest) (working entry p y) u steps ⌝ }
+    ensures highest { λ r. ⌜ exit highest ≡ poolStepHighest (pool entry channel storage sediment table) river
+        (setOf (old .entry)) (columnsOf (new .entry) (fixed .entry)) (entry highest) (working entry p y) u steps ⌝ }
+    ensures working { λ r. ⌜ working exit p y ≡ poolStepWorking (pool entry channel storage sediment table) river
+        (setOf (old .entry)) (columnsOf (new .entry) (fixed .entry)) (entry highest) (working entry p y) u steps ⌝ }
 {
     let found = pool_test(river, &channel[..], &storage[..], &sediment[..], &*table);
     if let Finding::Fails(number, place) = found {
-        return Step::Refused(number, place);
+        return Answer::Refused(number, place);
     }
     let at = river as usize - 1;
     let x = taken(*table, at);
@@ -218,30 +157,9 @@ pub fn step(
     };
     let answer = held.step(
         x.segments,
-        e0,
-        g0,
-        l0,
-        a0,
-        b0,
-        k0,
-        ks0,
-        h0,
-        m0,
-        s0,
-        e,
-        g,
-        l,
-        a,
-        b,
-        k,
-        ks,
-        h,
-        m,
-        s,
-        cl,
-        cb,
-        kd,
-        start,
+        old,
+        new,
+        fixed,
         &mut channel[first..end],
         &mut storage[first..end],
         &mut sediment[first..end],
@@ -251,34 +169,23 @@ pub fn step(
         u,
         steps,
     );
-    keep_stepped(answer, table, at, x);
+    keep(answer, table, at, x);
     answer
 }
 
 // A report of a segment of an open river, which counts from 1: tests 18, 13 and 14.
 pub fn report(
     river: u32,
-    e: &[u32],
-    g: &[u32],
-    l: &[u32],
-    a: &[u32],
-    b: &[u32],
-    k: &[u32],
-    ks: &[u32],
-    h: &[u32],
-    m: &[u32],
-    s: &[u32],
-    cl: &[u32],
-    cb: &[u32],
-    kd: &[u32],
-    start: &[u32],
+    numbers: Set,
+    fixed: Fixed,
     channel: &[u32],
     storage: &[u32],
     sediment: &[u32],
-    table: &[u32; 40],
+    table: &Table,
     segment: u32,
 ) -> Report
-    ensures { λ r. ⌜ reportSays r ≡ poolReportAnswer (pool entry channel storage sediment table) river (columns entry e g l a b k ks h m s cl cb kd start) segment ⌝ }
+    ensures { λ r. ⌜ reportSays r ≡ poolReportAnswer (pool entry channel storage sediment table) river
+        (columnsOf (numbers .entry) (fixed .entry)) segment ⌝ }
 {
     let found = pool_test(river, channel, storage, sediment, table);
     if let Finding::Fails(number, place) = found {
@@ -293,20 +200,8 @@ pub fn report(
     };
     held.report(
         x.segments,
-        e,
-        g,
-        l,
-        a,
-        b,
-        k,
-        ks,
-        h,
-        m,
-        s,
-        cl,
-        cb,
-        kd,
-        start,
+        numbers,
+        fixed,
         &channel[first..end],
         &storage[first..end],
         &sediment[first..end],
@@ -315,7 +210,7 @@ pub fn report(
 }
 
 // A closing: 18 alone.
-pub fn close(river: u32, table: &mut [u32; 40]) -> Finding
+pub fn close(river: u32, table: &mut Table) -> Finding
     ensures answer { λ r. ⌜ findingSays r ≡ closeFinding (tableIn (entry table)) river ⌝ }
     ensures table { λ _. ⌜ tableIn (exit table) ≡ closedTable (tableIn (entry table)) river ⌝ }
 {
@@ -339,7 +234,7 @@ pub fn close(river: u32, table: &mut [u32; 40]) -> Finding
 }
 
 // 17, and then 18 of the table alone, behind tests 1 to 12.
-fn room_test(found: Finding, sheet: &[u8], table: &[u32; 40], river: u32) -> Finding
+fn room_test(found: Finding, sheet: &[u8], table: &Table, river: u32) -> Finding
     requires { ⌜ (findingSays found ≡ passes → segmentCount (now sheet) ≤ mostSegments) ⌝ }
     ensures { λ r. ⌜ findingSays r ≡ first (findingSays found ∷ test 17 (roomFault (tableIn (entry table)) river (segmentCount (entry sheet)))
         ∷ test 18 (tableFault (tableIn (entry table))) ∷ []) ⌝ }
@@ -357,23 +252,15 @@ fn room_test(found: Finding, sheet: &[u8], table: &[u32; 40], river: u32) -> Fin
 }
 
 // 13 of the shared lists and of the highest figures, by their lengths, and then 14 of U, behind the tests before.
-fn last_test(
-    found: Finding,
-    sheet: &[u8],
-    channel: usize,
-    storage: usize,
-    sediment: usize,
-    highest: usize,
-    u: u32,
-) -> Finding
+fn last_test(found: Finding, sheet: &[u8], shared: &[usize], highest: usize, u: u32) -> Finding
     requires { ⌜ (findingSays found ≡ passes → segmentCount (now sheet) ≤ mostSegments) ⌝ }
-    ensures { λ r. ⌜ findingSays r ≡ first (findingSays found ∷ test 13 ((ltb channel mostSegments || (ltb storage mostSegments || (ltb sediment mostSegments || false)))
-        || ltb highest (blockCount (segmentCount (entry sheet)))) ∷ test 14 (outside concentration u) ∷ []) ⌝ }
+    ensures { λ r. ⌜ findingSays r ≡ first (findingSays found
+        ∷ test 13 (anyUnder mostSegments (entry shared) || ltb highest (blockCount (segmentCount (entry sheet)))) ∷ test 14 (outside concentration u) ∷ []) ⌝ }
 {
     if let Finding::Fails(number, place) = found {
         return Finding::Fails(number, place);
     }
-    if any_short(channel, storage, sediment) {
+    if any_short(ENTRIES, shared) {
         return Finding::Fails(13, Place::Nothing);
     }
     if highest < blocks::count(segment_count(sheet) as u32) {
@@ -386,7 +273,7 @@ fn last_test(
 }
 
 // A shared list after this answer to an opening; `figures` are the new river's start figures.
-fn pack_if(answer: Load, table: [u32; 40], figures: &[u32], list: &mut [u32])
+fn pack_if(answer: Load, table: Table, figures: &[u32], list: &mut [u32])
     requires { ⌜ WhereLoaded (loadSays answer) (λ n. (n + openSegments (tableIn table) ≤ mostSegments) × (n ≤ length (now figures)) × (mostSegments ≤ length (now list))) ⌝ }
     ensures { λ _. ⌜ exit list ≡ listAfterOpen (loadSays answer) (tableIn table) (entry figures) (entry list) ⌝ }
 {
@@ -406,7 +293,7 @@ fn fill_if(answer: Load, figures: &[u32], highest: &mut [u32])
 }
 
 // The table after it.
-fn pack_table_if(answer: Load, table: &mut [u32; 40], river: u32, u: u32)
+fn pack_table_if(answer: Load, table: &mut Table, river: u32, u: u32)
     requires { ⌜ WhereLoaded (loadSays answer) (λ n. (1 ≤ river) × (river ≤ mostRivers) × (tableFault (tableIn (now table)) ≡ false)) ⌝ }
     ensures { λ _. ⌜ tableIn (exit table) ≡ tableAfterOpen (loadSays answer) (tableIn (entry table)) river u ⌝ }
 {
@@ -440,7 +327,7 @@ pub fn open_lists(
     storage: &mut [u32],
     sediment: &mut [u32],
     highest: &mut [u32],
-    table: &mut [u32; 40],
+    table: &mut Table,
     u: u32,
 ) -> Load
     ensures answer { λ r. ⌜ loadSays r ≡ openAnswer (entry sheet) row records (columns entry e g l a b k ks h m s cl cb kd start)
@@ -457,27 +344,27 @@ pub fn open_lists(
         sheet,
         row,
         records,
-        &e[..],
-        &g[..],
-        &l[..],
-        &a[..],
-        &b[..],
-        &k[..],
-        &ks[..],
-        &h[..],
-        &m[..],
-        &s[..],
-        &cl[..],
-        &cb[..],
-        &kd[..],
-        &start[..],
+        &[
+            e.len(),
+            g.len(),
+            l.len(),
+            a.len(),
+            b.len(),
+            k.len(),
+            ks.len(),
+            h.len(),
+            m.len(),
+            s.len(),
+            cl.len(),
+            cb.len(),
+            kd.len(),
+            start.len(),
+        ],
     );
     let found = last_test(
         listed,
         sheet,
-        channel.len(),
-        storage.len(),
-        sediment.len(),
+        &[channel.len(), storage.len(), sediment.len()],
         highest.len(),
         u,
     );

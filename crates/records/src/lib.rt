@@ -1,7 +1,6 @@
 // The list of reach records that a loading is lent: a record put in, one taken out, and its first entries filled from a sheet.
 ghost use mathlib.Core.Path.{_≡_};
 ghost use mathlib.Core.List.{map};
-ghost use Prim.Native.Nat.{min};
 ghost use lib.ListN.{set, getD};
 ghost use Rattle.model.specs.Sheet.{reachCount};
 ghost use Rattle.terms.specs.Says.{reachSays};
@@ -9,9 +8,30 @@ ghost use Rattle.lists.specs.Lent.{entry, exit};
 ghost use Rattle.assembly.specs.Says.{loadSays};
 ghost use Rattle.records.specs.Records.{noReach, filled, fillCount};
 use assembly::Load;
+use lists::least;
 use sheet::fields::reach;
 use sheet::fields::reach_count;
 use terms::Reach;
+
+// A record of zeros.
+pub const NO_REACH: Reach = Reach {
+    segments: 0,
+    dispersion: 0,
+    area: 0,
+    area2: 0,
+    alpha: 0,
+    qin: 0,
+    qout: 0,
+    cl: 0,
+    lambda: 0,
+    lambda2: 0,
+    lamhat: 0,
+    lamhat2: 0,
+    rho: 0,
+    kd: 0,
+    cb: 0,
+    start: 0,
+};
 
 // Puts a record at place i, which counts from 0. Past the end of the list nothing is written.
 pub fn put(reaches: &mut [Reach], i: usize, value: Reach)
@@ -27,33 +47,10 @@ pub fn take(reaches: &[Reach], i: usize) -> Reach
     ensures { λ r. ⌜ r ≡ getD (entry reaches) i noReach ⌝ }
 {
     if reaches.len() <= i {
-        Reach {
-            segments: 0,
-            dispersion: 0,
-            area: 0,
-            area2: 0,
-            alpha: 0,
-            qin: 0,
-            qout: 0,
-            cl: 0,
-            lambda: 0,
-            lambda2: 0,
-            lamhat: 0,
-            lamhat2: 0,
-            rho: 0,
-            kd: 0,
-            cb: 0,
-            start: 0,
-        }
+        NO_REACH
     } else {
         reaches[i]
     }
-}
-
-fn least(a: usize, b: usize) -> usize
-    ensures { λ r. ⌜ r ≡ min a b ⌝ }
-{
-    if a < b { a } else { b }
 }
 
 // Fills the first `count` entries from the sheet, as far as the list reaches; the others stay.

@@ -2,11 +2,11 @@
 use assembly::Load;
 use blocks::BLOCK;
 use loading::load_lists;
+use otis::Answer;
 use otis::Report;
 use otis::River;
-use otis::Start;
-use otis::Step;
-use terms::Place;
+use terms::Fixed;
+use terms::Set;
 
 // The most segments that a sheet can have.
 const SEGMENTS: usize = River::SEGMENTS as usize;
@@ -19,7 +19,7 @@ pub const ROOM: usize = SEGMENTS + 16;
 pub const BLOCKS: usize = (SEGMENTS + BLOCK - 1) / BLOCK;
 
 // The fourteen lists of a loading stand behind one another in one list, `columns`: the ten half-step numbers e to s, CL, CB, Kd and
-// the start figures. So a river holds two sets in two lists, and the k-th list of one stands from Ck on.
+// the start figures, in the order of their places in `terms`. So a river holds two sets in two lists, and the k-th list of one stands from Ck on.
 const C0: usize = 0;
 
 const C1: usize = 1 * ROOM;
@@ -65,38 +65,13 @@ fn put_list(list: &[u32], columns: &mut [u32], k: usize) {
     }
 }
 
-// The fourteen lists of a loading, into the columns.
-fn put_lists(
-    e: &[u32],
-    g: &[u32],
-    l: &[u32],
-    a: &[u32],
-    b: &[u32],
-    k: &[u32],
-    ks: &[u32],
-    h: &[u32],
-    m: &[u32],
-    s: &[u32],
-    cl: &[u32],
-    cb: &[u32],
-    kd: &[u32],
-    start: &[u32],
-    columns: &mut [u32],
-) {
-    put_list(e, &mut columns[..], C0);
-    put_list(g, &mut columns[..], C1);
-    put_list(l, &mut columns[..], C2);
-    put_list(a, &mut columns[..], C3);
-    put_list(b, &mut columns[..], C4);
-    put_list(k, &mut columns[..], C5);
-    put_list(ks, &mut columns[..], C6);
-    put_list(h, &mut columns[..], C7);
-    put_list(m, &mut columns[..], C8);
-    put_list(s, &mut columns[..], C9);
-    put_list(cl, &mut columns[..], C10);
-    put_list(cb, &mut columns[..], C11);
-    put_list(kd, &mut columns[..], C12);
-    put_list(start, &mut columns[..], C13);
+// The fourteen lists into the columns.
+fn put_lists(lists: [&[u32]; 14], columns: &mut [u32]) {
+    let mut k: usize = 0;
+    while k < lists.len() {
+        put_list(lists[k], &mut columns[..], k * ROOM);
+        k += 1;
+    }
 }
 
 // A loading for this flow, into the columns.
@@ -134,20 +109,22 @@ pub fn load(sheet: &[u8], flow: u32, columns: &mut [u32]) -> Load {
         &mut start,
     );
     put_lists(
-        &e,
-        &g,
-        &l,
-        &a,
-        &b,
-        &k,
-        &ks,
-        &h,
-        &m,
-        &s,
-        &cl,
-        &cb,
-        &kd,
-        &start,
+        [
+            &e,
+            &g,
+            &l,
+            &a,
+            &b,
+            &k,
+            &ks,
+            &h,
+            &m,
+            &s,
+            &cl,
+            &cb,
+            &kd,
+            &start,
+        ],
         columns,
     );
     answer
@@ -158,25 +135,12 @@ pub fn copy_columns(from: &[u32], to: &mut [u32]) {
     put_list(from, to, C0);
 }
 
-// A start, in the columns of a flow; a refusal, which no accepted sheet meets, leaves the river where it is.
-pub fn start(
-    segments: u32,
-    columns: &[u32],
-    channel: &mut [u32],
-    storage: &mut [u32],
-    sediment: &mut [u32],
-    highest: &mut [u32],
-    u: u32,
-) -> River {
-    let none = River {
-        upstream: 0,
-        steps: 0,
-    };
+// The set in the columns. Columns that are too short, which the program has none of, are lent whole in the place of each list.
+fn set_in<'a>(columns: &'a [u32]) -> Set<'a> {
     if columns.len() < C14 {
-        return none;
+        return [columns; 10];
     }
-    let started = River::start(
-        segments,
+    [
         &columns[C0..C1],
         &columns[C1..C2],
         &columns[C2..C3],
@@ -187,32 +151,60 @@ pub fn start(
         &columns[C7..C8],
         &columns[C8..C9],
         &columns[C9..C10],
+    ]
+}
+
+// The four lists behind it.
+fn fixed_in<'a>(columns: &'a [u32]) -> Fixed<'a> {
+    if columns.len() < C14 {
+        return [columns; 4];
+    }
+    [
         &columns[C10..C11],
         &columns[C11..C12],
         &columns[C12..C13],
         &columns[C13..C14],
+    ]
+}
+
+// The river after a start or a step; a refusal, which no accepted sheet meets, leaves it where it is.
+fn after(answer: Answer, before: River) -> River {
+    match answer {
+        Answer::Accepted(river) => river,
+        Answer::Refused(_, _) => before,
+    }
+}
+
+// A start, in the columns of a flow.
+pub fn start(
+    segments: u32,
+    columns: &[u32],
+    channel: &mut [u32],
+    storage: &mut [u32],
+    sediment: &mut [u32],
+    highest: &mut [u32],
+    u: u32,
+) -> River {
+    let answer = River::start(
+        segments,
+        set_in(columns),
+        fixed_in(columns),
         channel,
         storage,
         sediment,
         highest,
         u,
     );
-    match started {
-        Start::Started(river) => river,
-        Start::Refused(_, _) => none,
-    }
+    after(
+        answer,
+        River {
+            upstream: 0,
+            steps: 0,
+        },
+    )
 }
 
-// The river after a step; a refusal, which no accepted sheet meets, leaves it where it is.
-fn after(stepped: Step, before: River) -> River {
-    match stepped {
-        Step::Stepped(river) => river,
-        Step::Refused(_, _) => before,
-    }
-}
-
-// A step, its old side in the columns of one flow and its new side in those of another; a refusal, which no accepted sheet meets, leaves the
-// river where it is.
+// A step, its old side in the columns of one flow and its new side in those of another.
 pub fn step(
     river: River,
     segments: u32,
@@ -227,38 +219,11 @@ pub fn step(
     u: u32,
     steps: u32,
 ) -> River {
-    if old.len() < C14 {
-        return river;
-    }
-    if columns.len() < C14 {
-        return river;
-    }
-    let stepped = river.step(
+    let answer = river.step(
         segments,
-        &old[C0..C1],
-        &old[C1..C2],
-        &old[C2..C3],
-        &old[C3..C4],
-        &old[C4..C5],
-        &old[C5..C6],
-        &old[C6..C7],
-        &old[C7..C8],
-        &old[C8..C9],
-        &old[C9..C10],
-        &columns[C0..C1],
-        &columns[C1..C2],
-        &columns[C2..C3],
-        &columns[C3..C4],
-        &columns[C4..C5],
-        &columns[C5..C6],
-        &columns[C6..C7],
-        &columns[C7..C8],
-        &columns[C8..C9],
-        &columns[C9..C10],
-        &columns[C10..C11],
-        &columns[C11..C12],
-        &columns[C12..C13],
-        &columns[C13..C14],
+        set_in(old),
+        set_in(columns),
+        fixed_in(columns),
         channel,
         storage,
         sediment,
@@ -268,7 +233,7 @@ pub fn step(
         u,
         steps,
     );
-    after(stepped, river)
+    after(answer, river)
 }
 
 // The report of a segment, in the columns of a flow.
@@ -281,25 +246,10 @@ pub fn report(
     sediment: &[u32],
     segment: u32,
 ) -> Report {
-    if columns.len() < C14 {
-        return Report::Refused(13, Place::Nothing);
-    }
     river.report(
         segments,
-        &columns[C0..C1],
-        &columns[C1..C2],
-        &columns[C2..C3],
-        &columns[C3..C4],
-        &columns[C4..C5],
-        &columns[C5..C6],
-        &columns[C6..C7],
-        &columns[C7..C8],
-        &columns[C8..C9],
-        &columns[C9..C10],
-        &columns[C10..C11],
-        &columns[C11..C12],
-        &columns[C12..C13],
-        &columns[C13..C14],
+        set_in(columns),
+        fixed_in(columns),
         channel,
         storage,
         sediment,

@@ -15,6 +15,7 @@ use columns::start;
 use columns::step;
 use columns::take_flow;
 use libc::STDIN_FILENO;
+use limits::ROWS;
 use otis::Report;
 use otis::River;
 use output::LINE;
@@ -22,7 +23,6 @@ use output::Output;
 use sheet::LONGEST;
 use sheet::fields::flow_in_force;
 use sheet::fields::gauge;
-use sheet::ranges::ROWS;
 use sheet::rows::copy_rows;
 
 mod columns;

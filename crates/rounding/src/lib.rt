@@ -14,6 +14,13 @@ const HALF: u64 = WHOLE / 2;
 // One part above one whole, which stands for all that is more than one whole.
 const ABOVE: u32 = (WHOLE + 1) as u32;
 
+// A product of two 32-bit numbers, which fits 64 bits.
+pub fn product(x: u32, y: u32) -> u64
+    ensures { λ r. ⌜ r ≡ x * y ⌝ }
+{
+    (x as u64) * (y as u64)
+}
+
 // A quotient with its remainder.
 struct Split {
     quotient: u64,

@@ -18,7 +18,7 @@ use Rattle.model.specs.Search.{searchTests, SearchAnswer}
 use Rattle.model.specs.Pool.{Slot, slotOf, numberFault, poolSearchTests, PoolSearchAnswer}
 use Rattle.model.proofs.Refusals.{fails-passes}
 use Rattle.model.proofs.Ranges.{inside}
-use Rattle.stretches.proofs.Tables.{fault-apart, number-clear}
+use Rattle.pool_laws.proofs.Tables.{fault-apart, number-clear}
 use Rattle.search.specs.declared.Search.{Search}
 use Rattle.search.specs.declared.Search.the-variants as Search
 use Rattle.search.specs.Says.{searchSays, FindsSays}

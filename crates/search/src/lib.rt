@@ -12,11 +12,12 @@ ghost use Rattle.model.specs.Pool.{PoolSearchAnswer};
 ghost use Rattle.terms.specs.Lent.{tableIn};
 ghost use Rattle.search.specs.Says.{searchSays, FindsSays};
 use blocks::BLOCK;
-use calltests::limits::outside;
-use calltests::segments::SEGMENTS;
-use calltests::segments::or_short;
-use slots::number_fault;
-use slots::taken;
+use limits::MOST_SEGMENTS;
+use limits::SEGMENTS;
+use limits::outside;
+use pool_table::Table;
+use pool_table::number_fault;
+use pool_table::taken;
 use terms::Place;
 
 // A segment that is above the limit, which counts from 1; nothing found; or refused.
@@ -58,10 +59,7 @@ fn find(n: usize, channel: &[u32], highest: &[u32], limit: u32) -> Search
 fn fault(n: u32, channel: usize, highest: usize) -> bool
     ensures { λ r. ⌜ r ≡ (outside (1 to mostSegments) n || (ltb channel n || ltb highest (blockCount n))) ⌝ }
 {
-    if outside(1, SEGMENTS as u64, n as u64) {
-        return true;
-    }
-    or_short(n as usize, channel, highest < blocks::count(n))
+    outside(SEGMENTS, n as u64) | ((channel < n as usize) | (highest < blocks::count(n)))
 }
 
 // The search of a river whose lists are its own: 13 alone. Which segment it names is left open, but for what `SearchAnswer` says of it.
@@ -75,19 +73,13 @@ pub fn alone(n: u32, channel: &[u32], highest: &[u32], limit: u32) -> Search
 }
 
 // The search of an open river on a pool: 18, and 13, which wants 1,024 entries of the one shared list that it is lent.
-pub fn on_pool(
-    river: u32,
-    channel: &[u32],
-    highest: &[u32],
-    table: &[u32; 40],
-    limit: u32,
-) -> Search
+pub fn on_pool(river: u32, channel: &[u32], highest: &[u32], table: &Table, limit: u32) -> Search
     ensures { λ r. ⌜ PoolSearchAnswer (tableIn (entry table)) (entry channel) river (entry highest) limit (searchSays r) ⌝ }
 {
     if number_fault(*table, river) {
         return Search::Refused(18, Place::Nothing);
     }
-    if channel.len() < SEGMENTS as usize {
+    if channel.len() < MOST_SEGMENTS as usize {
         return Search::Refused(13, Place::Nothing);
     }
     let x = taken(*table, river as usize - 1);

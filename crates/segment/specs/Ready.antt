@@ -4,8 +4,8 @@ use Rattle.rounding.specs.Nearest.{S}
 use Rattle.model.specs.Ranges.{highest}
 use Rattle.model.specs.Equations.{Figures, Pair}
 use Rattle.model.specs.Sweep.{Row, Passed, under}
-use Rattle.stability.specs.Accepted.{Accepted, AtMost}
-use Rattle.stability.specs.Stable.{Fit, Stable}
+use Rattle.sweep_laws.specs.Accepted.{Accepted, AtMost}
+use Rattle.sweep_laws.specs.Stable.{Fit, Stable}
 
 -- the highest number of 32 bits: the right sides fit whatever the figures are
 abbrev pub word : ℕ

@@ -6,14 +6,12 @@ ghost use Rattle.model.specs.Ranges.{highest};
 ghost use Rattle.model.specs.Equations.{sumV, channelRight, storageRight, sedimentRight};
 ghost use Rattle.model.specs.Sweep.{P, N, F, R, rowOf, under, pass, clamp, newStorage, newSediment, newFigures};
 ghost use Rattle.terms.specs.Says.{numbersSay};
-ghost use Rattle.stability.specs.Accepted.{Sums};
+ghost use Rattle.sweep_laws.specs.Accepted.{Sums};
 ghost use Rattle.segment.specs.Says.{pair, pairSays, figuresSay, passedSays};
 ghost use Rattle.segment.specs.Ready.{word, row, RowReady, PassReady, SegmentReady, RaiseReady, FiguresReady};
+use limits::HIGHEST;
 use rounding::WHOLE;
 use terms::Numbers;
-
-// The highest concentration.
-const HIGHEST: u64 = 1_000_000_000;
 
 // A segment in a step: its numbers on the old side and on the new side, CL and CB.
 pub struct Pair {
@@ -208,10 +206,10 @@ pub fn raised(d: Passed, below: u64) -> u64
 fn clamped(c: u64) -> u32
     ensures { λ v. ⌜ (v ≡ clamp c) × (v ≤ highest) ⌝ }
 {
-    if c <= HIGHEST {
+    if c <= HIGHEST as u64 {
         c as u32
     } else {
-        HIGHEST as u32
+        HIGHEST
     }
 }
 

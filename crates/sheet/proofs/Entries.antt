@@ -1,19 +1,21 @@
 -- Laws of reaches, rows, gauges and flow rows: those of a sheet, entry by entry, and the rule on starts, told by a row and the one before it.
 use mathlib.Core.Path.{_≡_, refl, sym, _∙_}
-use mathlib.Core.Bool.{false, not, _||_}
+use mathlib.Core.Bool.{Bool, false, not, _||_}
 use mathlib.Core.List.{List}
-use Prim.Native.Nat.{ℕ, zero, suc, _-_, _<_, _≤_}
+use Prim.Native.Nat.{ℕ, zero, suc, _+_, _-_, _<_, _≤_}
 use native.Mathlib.Omega.{arith}
 use borrow.Author.Tests.{eqb-true, not-false, leb-false, ltb-false}
 use lib.Dec.{eqb, ltb}
 use lib.ListN.{length, getD}
 use Rattle.lists.specs.Lists.{notRising}
+use Rattle.lists.proofs.Lowest.{Searching, searching-start, searching-miss}
 use Rattle.lists.proofs.Tab.{getD-tab}
 use Rattle.lists.proofs.Shorter.{neither, not-rising}
 use Rattle.model.specs.Ranges.{_to_, outside, concentration, flows, reachSection, rowSection, gaugeSection}
 use Rattle.model.specs.Sheet.{recordField, reachCountAt, reachFields, rowCountAt, gaugeCountAt, rowCount, gaugeCount}
 use Rattle.model.specs.Sheet.{rowStarts, rowConcentrations, gauges, flowRowCount, flowRowStart, flowRowTop, flowRowStarts, flowRowTops}
 use Rattle.model.specs.Load.{startsLate, rowFault, gaugeFault, flowRowFault}
+use Rattle.sheet.specs.Entries.{Before}
 use Rattle.sheet.proofs.InRange.{Within, within}
 
 -- a reach's fields
@@ -46,6 +48,20 @@ module _ (sheet : List ℕ) (j : ℕ) where
   pub flow-row-top : j < flowRowCount sheet → getD (flowRowTops sheet) j 0 ≡ flowRowTop sheet j
   unfolding flowRowTops
   flow-row-top h = getD-tab _ (flowRowCount sheet) j 0 h
+
+-- a loop over n entries whose first fields are to rise: none below j is at fault, and the one before it has this first field
+pub record Passing (fault : ℕ → Bool) (n : ℕ) (rising : List ℕ) (j before : ℕ) : Type 0 where
+  pub searching : Searching fault n j
+  pub last : Before rising j before
+
+module _ {fault : ℕ → Bool} {n : ℕ} {rising : List ℕ} where
+  pub passing-start : Passing fault n rising 0 0
+  passing-start = record { searching = searching-start; last = λ h. absurd (omega arith) }
+
+  pub passing-miss : {j before first : ℕ} → Passing fault n rising j before → j < n → fault j ≡ false → getD rising j 0 ≡ first →
+      Passing fault n rising (j + 1) first
+  passing-miss {j} r h e first-is =
+      let back : j + 1 - 1 ≡ j = omega arith in record { searching = searching-miss (r .searching) h e; last = λ l. rw back first-is }
 
 -- the first row
 pub late-first : (starts : List ℕ) (j start : ℕ) → getD starts j 0 ≡ start → j ≡ 0 → not (eqb start 0) ≡ startsLate starts j

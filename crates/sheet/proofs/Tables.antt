@@ -1,7 +1,7 @@
 -- The code's tables are those of document 01: each range and section has one form in the code.
 use Rattle.model.specs.Ranges as Ranges
-use Rattle.sheet.specs.declared.ranges.Range as Code
-use Rattle.sheet.specs.declared.ranges.Section as CodeS
+use Rattle.limits.specs.declared.Range as Code
+use Rattle.limits.specs.declared.Section as CodeS
 
 abbrev pub codedRange : Ranges.Range → Code.Range
 codedRange r = record { low = r .low; high = r .high }

@@ -1,19 +1,18 @@
 // Tests 5, 6, 8, 9 and 16: fields outside their ranges, and rows and gauges that break their rules.
 ghost use mathlib.Core.Path.{_≡_};
 ghost use mathlib.Core.List.{List};
-ghost use Prim.Native.Nat.{ℕ, _-_, _<_};
+ghost use Prim.Native.Nat.{ℕ, _<_};
 ghost use lib.ListN.{getD};
 ghost use Rattle.model.specs.Ranges.{_to_, anyOutside, headerRanges, reachRanges, reachSection};
 ghost use Rattle.lists.specs.Lists.{notRising};
-ghost use Rattle.model.specs.Sheet.{header, stepsM, reachCount, rowCount, gaugeCount, flowRowCount, reachFields};
-ghost use Rattle.model.specs.Sheet.{rowStarts, rowConcentrations, gauges, flowRowStarts, flowRowTops};
+ghost use Rattle.model.specs.Sheet.{header, stepsM, reachCount, reachFields};
 ghost use Rattle.model.specs.Refusals as Document;
 ghost use Rattle.model.specs.Refusals.{testEach};
 ghost use Rattle.model.specs.Load.{startsLate, rowFault, gaugeFault, flowRowFault};
 ghost use Rattle.terms.specs.Says.{findingSays};
 ghost use Rattle.lists.specs.Lent.{entry};
-ghost use Rattle.sheet.specs.Tables.{rangeSays};
-ghost use Rattle.sheet.specs.Entries.{IsRow, IsGauge};
+ghost use Rattle.limits.specs.Says.{rangeSays};
+ghost use Rattle.sheet.specs.Entries.{Before, IsRow, IsGauge, countOf, risingOf, faultOf};
 use crate::fields::dt;
 use crate::fields::dx;
 use crate::fields::flow_row_count;
@@ -29,20 +28,20 @@ use crate::fields::row_count;
 use crate::fields::row_start;
 use crate::fields::steps;
 use crate::fields::top_flow;
-use crate::ranges::AREA;
-use crate::ranges::CONCENTRATION;
-use crate::ranges::DISPERSION;
-use crate::ranges::DT;
-use crate::ranges::DX;
-use crate::ranges::FLOW;
-use crate::ranges::KD;
-use crate::ranges::RATE;
-use crate::ranges::REACH_WIDTH;
-use crate::ranges::RHO;
-use crate::ranges::Range;
-use crate::ranges::SEGMENTS;
-use crate::ranges::STEPS;
-use crate::ranges::outside;
+use limits::AREA;
+use limits::CONCENTRATION;
+use limits::DISPERSION;
+use limits::DT;
+use limits::DX;
+use limits::FLOW;
+use limits::KD;
+use limits::RATE;
+use limits::REACH_WIDTH;
+use limits::RHO;
+use limits::Range;
+use limits::SEGMENTS;
+use limits::STEPS;
+use limits::outside;
 use terms::Finding;
 use terms::Place;
 
@@ -51,11 +50,11 @@ pub fn header_fault(sheet: &[u8]) -> bool
     ensures { λ r. let s = entry sheet in ⌜ r ≡ anyOutside (headerRanges (stepsM s)) (header s) ⌝ }
 {
     let most = steps(sheet);
-    outside(DT, dt(sheet))
-        | outside(DX, dx(sheet))
-        | outside(STEPS, most)
-        | outside(Range { low: 1, high: most }, interval(sheet))
-        | outside(FLOW, top_flow(sheet))
+    outside(DT, dt(sheet) as u64)
+        | outside(DX, dx(sheet) as u64)
+        | outside(STEPS, most as u64)
+        | outside(Range { low: 1, high: most }, interval(sheet) as u64)
+        | outside(FLOW, top_flow(sheet) as u64)
 }
 
 // A reach's 16 fields, in the sheet's order.
@@ -91,7 +90,7 @@ pub fn reach_fault(sheet: &[u8], i: usize) -> bool
 {
     let mut k: usize = 0;
     while k < REACH_WIDTH {
-        if outside(reach_range(k), reach_field(sheet, i, k)) {
+        if outside(reach_range(k), reach_field(sheet, i, k) as u64) {
             return true;
         }
         k += 1;
@@ -117,7 +116,7 @@ pub fn reach_test(sheet: &[u8]) -> Finding
 
 // "strictly rising": an entry that is not above the one before it.
 fn not_rising(j: u32, before: u32, value: u32) -> bool
-    ensures { λ r. ⌜ ((list : List ℕ) → (0 < j → getD list (j - 1) 0 ≡ before) → getD list j 0 ≡ value → r ≡ notRising list j) ⌝ }
+    ensures { λ r. ⌜ ((list : List ℕ) → Before list j before → getD list j 0 ≡ value → r ≡ notRising list j) ⌝ }
 {
     if j == 0 {
         return false;
@@ -127,8 +126,7 @@ fn not_rising(j: u32, before: u32, value: u32) -> bool
 
 // The first row starts at 0, another behind the row before it.
 fn starts_late(j: u32, before: u32, start: u32) -> bool
-    ensures { λ r. ⌜ ((starts concentrations : List ℕ) (c : ℕ) →
-        IsRow starts concentrations j before start c → r ≡ startsLate starts j) ⌝ }
+    ensures { λ r. ⌜ ((starts : List ℕ) → Before starts j before → getD starts j 0 ≡ start → r ≡ startsLate starts j) ⌝ }
 {
     if j == 0 {
         return start != 0;
@@ -141,52 +139,14 @@ pub fn row_fault(steps: u32, j: u32, before: u32, start: u32, concentration: u32
     ensures { λ r. ⌜ ((starts concentrations : List ℕ) → IsRow starts concentrations j before start concentration → r ≡ rowFault steps
         starts concentrations j) ⌝ }
 {
-    starts_late(j, before, start) | (steps < start) | outside(CONCENTRATION, concentration)
-}
-
-// 8. "A boundary row breaks its rule on starts, or its concentration is outside its range (row)."
-pub fn row_test(sheet: &[u8]) -> Finding
-    ensures { λ r. let s = entry sheet in ⌜ findingSays r ≡ testEach 8 Document.row (rowCount s)
-        (rowFault (stepsM s) (rowStarts s) (rowConcentrations s)) ⌝ }
-{
-    let count = row_count(sheet);
-    let most = steps(sheet);
-    let mut before: u32 = 0;
-    let mut j: u32 = 0;
-    while j < count {
-        let start = row_start(sheet, j as usize);
-        if row_fault(most, j, before, start, row_concentration(sheet, j as usize)) {
-            return Finding::Fails(8, Place::Row(j + 1));
-        }
-        before = start;
-        j += 1;
-    }
-    Finding::Passes
+    starts_late(j, before, start) | (steps < start) | outside(CONCENTRATION, concentration as u64)
 }
 
 // Gauge j of a river of n segments is none of its segments, or not behind the gauge before it.
-pub fn gauge_fault(segments: usize, j: u32, before: u32, gauge: u32) -> bool
+fn gauge_fault(segments: usize, j: u32, before: u32, gauge: u32) -> bool
     ensures { λ r. ⌜ ((gauges : List ℕ) → IsGauge gauges j before gauge → r ≡ gaugeFault segments gauges j) ⌝ }
 {
     (gauge < 1) | (segments < (gauge as usize)) | not_rising(j, before, gauge)
-}
-
-// 9. "A gauge breaks its rule (row)."
-pub fn gauge_test(sheet: &[u8], segments: usize) -> Finding
-    ensures { λ r. let s = entry sheet in ⌜ findingSays r ≡ testEach 9 Document.row (gaugeCount s) (gaugeFault segments (gauges s)) ⌝ }
-{
-    let count = gauge_count(sheet);
-    let mut before: u32 = 0;
-    let mut j: u32 = 0;
-    while j < count {
-        let segment = gauge(sheet, j as usize);
-        if gauge_fault(segments, j, before, segment) {
-            return Finding::Fails(9, Place::Row(j + 1));
-        }
-        before = segment;
-        j += 1;
-    }
-    Finding::Passes
 }
 
 // Flow row j starts outside 1 to M or not behind the row before it, or its flow is outside its range.
@@ -198,26 +158,74 @@ fn flow_row_fault(steps: u32, j: u32, before: u32, start: u32, top: u32) -> bool
             low: 1,
             high: steps,
         },
-        start,
+        start as u64,
     );
-    late | not_rising(j, before, start) | outside(FLOW, top)
+    late | not_rising(j, before, start) | outside(FLOW, top as u64)
 }
 
-// 16. "a flow row breaks its rule (row)".
-pub fn flow_row_test(sheet: &[u8]) -> Finding
-    ensures { λ r. let s = entry sheet in ⌜ findingSays r ≡ testEach 16 Document.row (flowRowCount s)
-        (flowRowFault (stepsM s) (flowRowStarts s) (flowRowTops s)) ⌝ }
+// Entries whose first fields are to rise, and how high: start steps of boundary rows or of flow rows to M, gauges to the last segment.
+pub enum Entries {
+    Rows(u32),
+    Gauges(usize),
+    FlowRows(u32),
+}
+
+// An entry's first field, and whether the entry breaks its rule.
+struct Judged {
+    first: u32,
+    fault: bool,
+}
+
+fn count_of(sheet: &[u8], entries: Entries) -> u32
+    ensures { λ r. ⌜ r ≡ countOf entries (entry sheet) ⌝ }
 {
-    let count = flow_row_count(sheet);
-    let most = steps(sheet);
+    match entries {
+        Entries::Rows(_) => row_count(sheet),
+        Entries::Gauges(_) => gauge_count(sheet),
+        Entries::FlowRows(_) => flow_row_count(sheet),
+    }
+}
+
+// Entry j, behind one whose first field is `before`.
+fn judge(sheet: &[u8], entries: Entries, j: u32, before: u32) -> Judged
+    requires { ⌜ j < countOf entries (now sheet) ⌝ }
+    ensures { λ r. let s = entry sheet in ⌜ (getD (risingOf entries s) j 0 ≡ r .first)
+        × (Before (risingOf entries s) j before → r .fault ≡ faultOf entries s j) ⌝ }
+{
+    let i = j as usize;
+    match entries {
+        Entries::Rows(steps) => {
+            let first = row_start(sheet, i);
+            let fault = row_fault(steps, j, before, first, row_concentration(sheet, i));
+            Judged { first, fault }
+        }
+        Entries::Gauges(segments) => {
+            let first = gauge(sheet, i);
+            let fault = gauge_fault(segments, j, before, first);
+            Judged { first, fault }
+        }
+        Entries::FlowRows(steps) => {
+            let first = flow_row_start(sheet, i);
+            let fault = flow_row_fault(steps, j, before, first, flow_row_top(sheet, i));
+            Judged { first, fault }
+        }
+    }
+}
+
+// 8. "A boundary row breaks its rule on starts, or its concentration is outside its range (row)", 9. "A gauge breaks its rule (row)",
+// 16. "a flow row breaks its rule (row)".
+pub fn entries_test(sheet: &[u8], number: u32, entries: Entries) -> Finding
+    ensures { λ r. let s = entry sheet in ⌜ findingSays r ≡ testEach number Document.row (countOf entries s) (faultOf entries s) ⌝ }
+{
+    let count = count_of(sheet, entries);
     let mut before: u32 = 0;
     let mut j: u32 = 0;
     while j < count {
-        let start = flow_row_start(sheet, j as usize);
-        if flow_row_fault(most, j, before, start, flow_row_top(sheet, j as usize)) {
-            return Finding::Fails(16, Place::Row(j + 1));
+        let x = judge(sheet, entries, j, before);
+        if x.fault {
+            return Finding::Fails(number, Place::Row(j + 1));
         }
-        before = start;
+        before = x.first;
         j += 1;
     }
     Finding::Passes

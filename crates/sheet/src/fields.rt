@@ -9,18 +9,18 @@ ghost use Rattle.model.specs.Sheet.{field, headerField, dt, dx, stepsM, interva
 ghost use Rattle.model.specs.Sheet.{reachCountAt, rowCountAt, gaugeCountAt, sheetEnd, reachCount, rowCount, gaugeCount, rowsAt, gaugesAt};
 ghost use Rattle.terms.specs.Says.{reachSays};
 ghost use Rattle.lists.specs.Lent.{entry};
-ghost use Rattle.sheet.specs.Tables.{sectionSays};
+ghost use Rattle.limits.specs.Says.{sectionSays};
 use crate::layout::REACH_COUNT_AT;
 use crate::layout::SIZE;
 use crate::layout::product;
 use crate::layout::section_end;
 use crate::layout::sum;
 use crate::marks::has_flow_rows;
-use crate::ranges::FLOW_ROWS;
-use crate::ranges::GAUGES;
-use crate::ranges::REACHES;
-use crate::ranges::ROWS;
-use crate::ranges::Section;
+use limits::FLOW_ROWS;
+use limits::GAUGES;
+use limits::REACHES;
+use limits::ROWS;
+use limits::Section;
 use terms::Reach;
 
 // One byte, of a place past the end 0.

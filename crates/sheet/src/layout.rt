@@ -3,13 +3,13 @@ ghost use mathlib.Core.Path.{_≡_};
 ghost use Prim.Native.Nat.{_+_, _*_, _-_, _^_, _<_, _≤_, min};
 ghost use Rattle.model.specs.Sheet.{sectionEnd};
 ghost use Rattle.lists.specs.Lent.{entry};
-ghost use Rattle.sheet.specs.Tables.{sectionSays};
+ghost use Rattle.limits.specs.Says.{sectionSays};
 use crate::fields::field;
-use crate::ranges::FLOW_ROWS;
-use crate::ranges::GAUGES;
-use crate::ranges::REACHES;
-use crate::ranges::ROWS;
-use crate::ranges::Section;
+use limits::FLOW_ROWS;
+use limits::GAUGES;
+use limits::REACHES;
+use limits::ROWS;
+use limits::Section;
 
 // The bytes of the mark, of a field and of a count.
 pub const SIZE: usize = 4;

@@ -10,20 +10,19 @@ pub mod faults;
 pub mod fields;
 mod layout;
 pub mod marks;
-pub mod ranges;
 pub mod rows;
 mod walks;
 
-use faults::flow_row_test;
-use faults::gauge_test;
+use faults::Entries;
+use faults::entries_test;
 use faults::header_fault;
 use faults::reach_test;
-use faults::row_test;
 use fields::segment_count;
 use fields::sheet_end;
+use fields::steps;
 pub use layout::LONGEST;
+use limits::MOST_SEGMENTS;
 use marks::unmarked;
-use ranges::SEGMENTS;
 use terms::Finding;
 use terms::Place;
 use walks::walk;
@@ -48,10 +47,10 @@ fn kth_test(sheet: &[u8], k: u32) -> Finding
         2 => finding(4, sheet_end(sheet) < sheet.len()),
         3 => finding(5, header_fault(sheet)),
         4 => reach_test(sheet),
-        5 => finding(7, (SEGMENTS.high as usize) < segment_count(sheet)),
-        6 => row_test(sheet),
-        7 => gauge_test(sheet, segment_count(sheet)),
-        8 => flow_row_test(sheet),
+        5 => finding(7, (MOST_SEGMENTS as usize) < segment_count(sheet)),
+        6 => entries_test(sheet, 8, Entries::Rows(steps(sheet))),
+        7 => entries_test(sheet, 9, Entries::Gauges(segment_count(sheet))),
+        8 => entries_test(sheet, 16, Entries::FlowRows(steps(sheet))),
         _ => Finding::Passes,
     }
 }

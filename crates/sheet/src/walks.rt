@@ -6,18 +6,19 @@ ghost use Rattle.model.specs.Sheet.{sections, reachCountAt};
 ghost use Rattle.model.specs.Load.{walk};
 ghost use Rattle.terms.specs.Says.{findingSays};
 ghost use Rattle.lists.specs.Lent.{entry};
-ghost use Rattle.sheet.specs.Tables.{sectionSays, allSections, noSection};
+ghost use Rattle.limits.specs.Says.{sectionSays};
+ghost use Rattle.sheet.specs.Tables.{allSections, noSection};
 use crate::fields::field;
 use crate::layout::REACH_COUNT_AT;
 use crate::layout::SIZE;
 use crate::layout::section_end;
 use crate::marks::has_flow_rows;
-use crate::ranges::FLOW_ROWS;
-use crate::ranges::GAUGES;
-use crate::ranges::REACHES;
-use crate::ranges::ROWS;
-use crate::ranges::Section;
-use crate::ranges::outside;
+use limits::FLOW_ROWS;
+use limits::GAUGES;
+use limits::REACHES;
+use limits::ROWS;
+use limits::Section;
+use limits::outside;
 use terms::Finding;
 use terms::Place;
 
@@ -54,7 +55,7 @@ pub fn walk(sheet: &[u8]) -> Finding
         }
         let section = section_of(k);
         let counts = section.counts;
-        if outside(counts, field(sheet, at)) {
+        if outside(counts, field(sheet, at) as u64) {
             return Finding::Fails(3, Place::Nothing);
         }
         at = section_end(sheet, at, section);

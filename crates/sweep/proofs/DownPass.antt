@@ -13,8 +13,8 @@ use Rattle.model.specs.Equations.{Figures, Pair}
 use Rattle.model.specs.Sweep.{rowOf, Passed, Above, under, pass, downward}
 use Rattle.model.specs.State.{NumberSet, Columns, pairAt, pairsOf, State, figuresAt, figuresOf}
 use Rattle.model.specs.Calls.{Working}
-use Rattle.stability.specs.Stable.{pAbove, yAbove, Stable}
-use Rattle.stability.proofs.Passes.{pass-same, top-stable, kept}
+use Rattle.sweep_laws.specs.Stable.{pAbove, yAbove, Stable}
+use Rattle.sweep_laws.proofs.Passes.{pass-same, top-stable, kept}
 use Rattle.segment.specs.Ready.{RowReady, SegmentReady}
 use Rattle.sweep.specs.Step.{Ready, PassedOver}
 use Rattle.segment.proofs.Bounds.{ready-fit}

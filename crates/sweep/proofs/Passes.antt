@@ -8,8 +8,8 @@ use Rattle.lists.specs.Lists.{tab}
 use Rattle.model.specs.Sweep.{Passed, downward, up, finish, stepped}
 use Rattle.model.specs.State.{NumberSet, Columns, pairsOf, State, figuresAt, figuresOf}
 use Rattle.model.specs.Calls.{Working}
-use Rattle.stability.specs.Stable.{Stable}
-use Rattle.stability.proofs.Passes.{top-stable, kept}
+use Rattle.sweep_laws.specs.Stable.{Stable}
+use Rattle.sweep_laws.proofs.Passes.{top-stable, kept}
 use Rattle.lists.specs.Lent.{plain}
 use Rattle.terms.specs.Lent.{state as stateOf, working as workingOf}
 use Rattle.sweep.specs.Step.{passedAt, passedOf, Ready, UpReady, FiguresOver, PassedOver, Stepped}

@@ -11,7 +11,7 @@ use Rattle.rounding.specs.Nearest.{S, nearest}
 use Rattle.model.specs.Equations.{Figures, Pair}
 use Rattle.model.specs.Sweep.{Row, below, rows, rowOf, Passed, Above, top, under, pass, down, downward, up, clamp, newFigures, finish}
 use Rattle.model.specs.State.{NumberSet, Columns, pairAt, pairsOf, State, figuresAt, figuresOf}
-use Rattle.stability.proofs.Passes.{first, onTop-same}
+use Rattle.sweep_laws.proofs.Passes.{first, onTop-same}
 
 -- the channel figure above segment i: U above the first
 abbrev pub aboveAt : (u : ℕ) → (ℕ → Figures) → ℕ → ℕ

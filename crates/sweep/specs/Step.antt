@@ -1,6 +1,6 @@
 -- One step over lent lists: what it asks of them, and what it leaves in them.
 use mathlib.Core.Path.{_≡_}
-use mathlib.Core.List.{List, [], map}
+use mathlib.Core.List.{List, map}
 use Prim.Native.Nat.{ℕ, _<_, _≤_}
 use lib.ListN.{length, getD}
 use Rattle.lists.specs.Lists.{tab, over}
@@ -9,15 +9,10 @@ use Rattle.model.specs.Equations.{Figures}
 use Rattle.model.specs.Sweep.{Passed, under, downward, stepped}
 use Rattle.model.specs.State.{NumberSet, Columns, pairAt, pairsOf, State, figuresAt, figuresOf}
 use Rattle.model.specs.Calls.{Working}
-use Rattle.terms.specs.Lent.{set, LongSet, LongFigures}
-use Rattle.stability.specs.Accepted.{Accepted, AtMost}
-use Rattle.stability.specs.Stable.{Stable}
+use Rattle.terms.specs.Lent.{LongSet, LongFigures}
+use Rattle.sweep_laws.specs.Accepted.{Accepted, AtMost}
+use Rattle.sweep_laws.specs.Stable.{Stable}
 use Rattle.segment.specs.Ready.{FiguresReady}
-
--- the new set with CL and CB; Kd and the start figures take no part in a step
-abbrev pub stepColumns : {A : Type 0} → (A → List ℕ) → (e g l a b k ks h m s cl cb : A) → Columns
-stepColumns at e g l a b k ks h m s cl cb =
-    record { numbers = set at e g l a b k ks h m s; cl = at cl; cb = at cb; kd = []; start = [] }
 
 -- p and y of segment i
 abbrev pub passedAt : Working → ℕ → Passed

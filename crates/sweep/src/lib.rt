@@ -1,5 +1,4 @@
-// One step of the river: the downward pass, then the upward pass with storage and sediment. The ten lists with 0 are the set of the
-// step's old side, the plain ones that of its new side.
+// One step of the river: the downward pass, then the upward pass with storage and sediment.
 ghost use mathlib.Core.Path.{_≡_};
 ghost use mathlib.Core.Bool.{cond};
 ghost use Prim.Native.Nat.{_<_, _≤_};
@@ -8,13 +7,17 @@ ghost use lib.ListN.{length, getD};
 ghost use Rattle.model.specs.Sweep.{downward, finish, up};
 ghost use Rattle.model.specs.State.{pairAt, pairsOf, figuresOf};
 ghost use Rattle.lists.specs.Lent.{entry, exit};
-ghost use Rattle.terms.specs.Lent.{set, state, working};
+ghost use Rattle.terms.specs.Lent.{setOf, columnsOf, state, working};
 ghost use Rattle.segment.specs.Says.{pairSays};
-ghost use Rattle.sweep.specs.Step.{stepColumns, passedOf, LongPairs, Ready, UpReady, FiguresOver, PassedOver, Stepped};
+ghost use Rattle.sweep.specs.Step.{passedOf, LongPairs, Ready, UpReady, FiguresOver, PassedOver, Stepped};
 use segment::Figures;
 use segment::Pair;
 use segment::Passed;
+use terms::CB;
+use terms::CL;
+use terms::Fixed;
 use terms::Numbers;
+use terms::Set;
 
 // The channel figure at i, 0 below the last segment.
 fn channel_or_0(channel: &[u32], i: usize, n: usize) -> u32
@@ -25,42 +28,15 @@ fn channel_or_0(channel: &[u32], i: usize, n: usize) -> u32
 }
 
 // Segment i with both its sides.
-fn pair_at(
-    n: usize,
-    i: usize,
-    e0: &[u32],
-    g0: &[u32],
-    l0: &[u32],
-    a0: &[u32],
-    b0: &[u32],
-    k0: &[u32],
-    ks0: &[u32],
-    h0: &[u32],
-    m0: &[u32],
-    s0: &[u32],
-    e: &[u32],
-    g: &[u32],
-    l: &[u32],
-    a: &[u32],
-    b: &[u32],
-    k: &[u32],
-    ks: &[u32],
-    h: &[u32],
-    m: &[u32],
-    s: &[u32],
-    cl: &[u32],
-    cb: &[u32],
-) -> Pair
-    requires { ⌜ (i < n) × LongPairs n (set now e0 g0 l0 a0 b0 k0 ks0 h0 m0 s0)
-        (stepColumns now e g l a b k ks h m s cl cb) ⌝ }
-    ensures { λ x. ⌜ pairSays x ≡ pairAt (set entry e0 g0 l0 a0 b0 k0 ks0 h0 m0 s0)
-        (stepColumns entry e g l a b k ks h m s cl cb) i ⌝ }
+fn pair_at(n: usize, i: usize, old: Set, new: Set, fixed: Fixed) -> Pair
+    requires { ⌜ (i < n) × LongPairs n (setOf old) (columnsOf new fixed) ⌝ }
+    ensures { λ x. ⌜ pairSays x ≡ pairAt (setOf (old .entry)) (columnsOf (new .entry) (fixed .entry)) i ⌝ }
 {
     Pair {
-        old: Numbers::at(n, i, e0, g0, l0, a0, b0, k0, ks0, h0, m0, s0),
-        new: Numbers::at(n, i, e, g, l, a, b, k, ks, h, m, s),
-        cl: cl[i],
-        cb: cb[i],
+        old: Numbers::at(n, i, old),
+        new: Numbers::at(n, i, new),
+        cl: fixed[CL][i],
+        cb: fixed[CB][i],
     }
 }
 
@@ -69,38 +45,18 @@ fn downward(
     n: usize,
     u: u32,
     next: u32,
-    e0: &[u32],
-    g0: &[u32],
-    l0: &[u32],
-    a0: &[u32],
-    b0: &[u32],
-    k0: &[u32],
-    ks0: &[u32],
-    h0: &[u32],
-    m0: &[u32],
-    s0: &[u32],
-    e: &[u32],
-    g: &[u32],
-    l: &[u32],
-    a: &[u32],
-    b: &[u32],
-    k: &[u32],
-    ks: &[u32],
-    h: &[u32],
-    m: &[u32],
-    s: &[u32],
-    cl: &[u32],
-    cb: &[u32],
+    old: Set,
+    new: Set,
+    fixed: Fixed,
     channel: &[u32],
     storage: &[u32],
     sediment: &[u32],
     p: &mut [u64],
     y: &mut [u64],
 )
-    requires { ⌜ Ready n (set now e0 g0 l0 a0 b0 k0 ks0 h0 m0 s0) (stepColumns now e g l a b k ks h m s cl cb)
-        (state now channel storage sediment u 0) (working now p y) next ⌝ }
-    ensures { λ _. ⌜ PassedOver (downward u next (pairsOf n (set entry e0 g0 l0 a0 b0 k0 ks0 h0 m0 s0)
-        (stepColumns entry e g l a b k ks h m s cl cb)) (figuresOf n (state entry channel storage sediment u 0)))
+    requires { ⌜ Ready n (setOf old) (columnsOf new fixed) (state now channel storage sediment u 0) (working now p y) next ⌝ }
+    ensures { λ _. ⌜ PassedOver (downward u next (pairsOf n (setOf (old .entry))
+        (columnsOf (new .entry) (fixed .entry))) (figuresOf n (state entry channel storage sediment u 0)))
         (working entry p y) (exit p) (exit y) ⌝ }
 {
     let mut above = u;
@@ -112,32 +68,7 @@ fn downward(
     };
     let mut i: usize = 0;
     while i < n {
-        let x = pair_at(
-            n,
-            i,
-            e0,
-            g0,
-            l0,
-            a0,
-            b0,
-            k0,
-            ks0,
-            h0,
-            m0,
-            s0,
-            e,
-            g,
-            l,
-            a,
-            b,
-            k,
-            ks,
-            h,
-            m,
-            s,
-            cl,
-            cb,
-        );
+        let x = pair_at(n, i, old, new, fixed);
         let c = channel[i];
         let below = channel_or_0(channel, i + 1, n);
         let f = Figures {
@@ -157,70 +88,26 @@ fn downward(
 // p and y stay as they are.
 fn upward(
     n: usize,
-    e0: &[u32],
-    g0: &[u32],
-    l0: &[u32],
-    a0: &[u32],
-    b0: &[u32],
-    k0: &[u32],
-    ks0: &[u32],
-    h0: &[u32],
-    m0: &[u32],
-    s0: &[u32],
-    e: &[u32],
-    g: &[u32],
-    l: &[u32],
-    a: &[u32],
-    b: &[u32],
-    k: &[u32],
-    ks: &[u32],
-    h: &[u32],
-    m: &[u32],
-    s: &[u32],
-    cl: &[u32],
-    cb: &[u32],
+    old: Set,
+    new: Set,
+    fixed: Fixed,
     p: &[u64],
     y: &[u64],
     channel: &mut [u32],
     storage: &mut [u32],
     sediment: &mut [u32],
 )
-    requires { ⌜ UpReady n (set now e0 g0 l0 a0 b0 k0 ks0 h0 m0 s0) (stepColumns now e g l a b k ks h m s cl cb)
+    requires { ⌜ UpReady n (setOf old) (columnsOf new fixed)
         (state now channel storage sediment 0 0) (working now p y) ⌝ }
-    ensures { λ _. ⌜ FiguresOver (finish (pairsOf n (set entry e0 g0 l0 a0 b0 k0 ks0 h0 m0 s0)
-        (stepColumns entry e g l a b k ks h m s cl cb)) (figuresOf n (state entry channel storage sediment 0 0))
+    ensures { λ _. ⌜ FiguresOver (finish (pairsOf n (setOf (old .entry))
+        (columnsOf (new .entry) (fixed .entry))) (figuresOf n (state entry channel storage sediment 0 0))
         (up (passedOf n (working entry p y)))) (state entry channel storage sediment 0 0) (exit channel) (exit storage) (exit sediment) ⌝ }
 {
     let mut below: u64 = 0;
     let mut i = n;
     while i > 0 {
         i -= 1;
-        let x = pair_at(
-            n,
-            i,
-            e0,
-            g0,
-            l0,
-            a0,
-            b0,
-            k0,
-            ks0,
-            h0,
-            m0,
-            s0,
-            e,
-            g,
-            l,
-            a,
-            b,
-            k,
-            ks,
-            h,
-            m,
-            s,
-            cl,
-            cb,
-        );
+        let x = pair_at(n, i, old, new, fixed);
         let d = Passed {
             p: p[i],
             y: y[i],
@@ -245,100 +132,32 @@ pub fn step(
     n: usize,
     u: u32,
     next: u32,
-    e0: &[u32],
-    g0: &[u32],
-    l0: &[u32],
-    a0: &[u32],
-    b0: &[u32],
-    k0: &[u32],
-    ks0: &[u32],
-    h0: &[u32],
-    m0: &[u32],
-    s0: &[u32],
-    e: &[u32],
-    g: &[u32],
-    l: &[u32],
-    a: &[u32],
-    b: &[u32],
-    k: &[u32],
-    ks: &[u32],
-    h: &[u32],
-    m: &[u32],
-    s: &[u32],
-    cl: &[u32],
-    cb: &[u32],
+    old: Set,
+    new: Set,
+    fixed: Fixed,
     channel: &mut [u32],
     storage: &mut [u32],
     sediment: &mut [u32],
     p: &mut [u64],
     y: &mut [u64],
 )
-    requires { ⌜ Ready n (set now e0 g0 l0 a0 b0 k0 ks0 h0 m0 s0) (stepColumns now e g l a b k ks h m s cl cb)
-        (state now channel storage sediment u 0) (working now p y) next ⌝ }
-    ensures { λ _. ⌜ Stepped n (set entry e0 g0 l0 a0 b0 k0 ks0 h0 m0 s0)
-        (stepColumns entry e g l a b k ks h m s cl cb) (state entry channel storage sediment u 0) (working entry p y) next
+    requires { ⌜ Ready n (setOf old) (columnsOf new fixed) (state now channel storage sediment u 0) (working now p y) next ⌝ }
+    ensures { λ _. ⌜ Stepped n (setOf (old .entry))
+        (columnsOf (new .entry) (fixed .entry)) (state entry channel storage sediment u 0) (working entry p y) next
         (exit channel) (exit storage) (exit sediment) (exit p) (exit y) ⌝ }
 {
     downward(
         n,
         u,
         next,
-        e0,
-        g0,
-        l0,
-        a0,
-        b0,
-        k0,
-        ks0,
-        h0,
-        m0,
-        s0,
-        e,
-        g,
-        l,
-        a,
-        b,
-        k,
-        ks,
-        h,
-        m,
-        s,
-        cl,
-        cb,
+        old,
+        new,
+        fixed,
         channel,
         storage,
         sediment,
         p,
         y,
     );
-    upward(
-        n,
-        e0,
-        g0,
-        l0,
-        a0,
-        b0,
-        k0,
-        ks0,
-        h0,
-        m0,
-        s0,
-        e,
-        g,
-        l,
-        a,
-        b,
-        k,
-        ks,
-        h,
-        m,
-        s,
-        cl,
-        cb,
-        p,
-        y,
-        channel,
-        storage,
-        sediment,
-    );
+    upward(n, old, new, fixed, p, y, channel, storage, sediment);
 }

@@ -1,8 +1,9 @@
 -- What a call is lent, gathered as the records of `model`'s definitions. `set`, `columns`, `state`, `working` and `pool` take a reader of
--- lists/specs/Lent first: when the call begins, when it is over, or plain lists.
-use mathlib.Core.List.{List}
+-- lists/specs/Lent first: when the call begins, when it is over, or plain lists. `setOf` and `columnsOf` read lists that are lent as one.
+use mathlib.Core.List.{List, []}
 use Prim.Native.Nat.{ℕ, _+_, _*_, _≤_}
 use lib.ListN.{length, getD}
+use denote.Ref.{RefT, now}
 use Rattle.lists.specs.Lists.{tab}
 use Rattle.model.specs.Ranges.{mostRivers}
 use Rattle.model.specs.State.{NumberSet, Columns, State}
@@ -28,6 +29,24 @@ set at e g l a b k ks h m s = record {
 abbrev pub columns : {A : Type 0} → (A → List ℕ) → (e g l a b k ks h m s cl cb kd start : A) → Columns
 columns at e g l a b k ks h m s cl cb kd start =
     record { numbers = set at e g l a b k ks h m s; cl = at cl; cb = at cb; kd = at kd; start = at start }
+
+-- lists that are lent as one: the list at a place, and none past the last
+abbrev pub listAt : List (RefT (List ℕ)) → ℕ → List ℕ
+listAt lists place = now (getD lists place (record { ptr = (0, 0); name = 0; now = [] }))
+
+-- a set that is lent as one
+abbrev pub setOf : List (RefT (List ℕ)) → NumberSet
+setOf lists = set (listAt lists) 0 1 2 3 4 5 6 7 8 9
+
+-- the fourteen lists, as a set and the four that every flow shares
+abbrev pub columnsOf : (numbers fixed : List (RefT (List ℕ))) → Columns
+columnsOf numbers fixed = record {
+  numbers = setOf numbers;
+  cl = listAt fixed 0;
+  cb = listAt fixed 1;
+  kd = listAt fixed 2;
+  start = listAt fixed 3;
+}
 
 -- the state: its three lists, U and the count of steps done
 abbrev pub state : {A : Type 0} → (A → List ℕ) → (channel storage sediment : A) → (upstream steps : ℕ) → State

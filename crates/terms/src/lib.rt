@@ -1,12 +1,14 @@
 // The types that the crates share. specs/Says gives what document 01 calls each of their values.
 ghost use mathlib.Core.Path.{_≡_};
-ghost use Prim.Native.Nat.{_<_};
+ghost use mathlib.Core.List.{map};
+ghost use Prim.Native.Nat.{_<_, _≤_};
+ghost use lib.ListN.{length};
+ghost use Rattle.model.specs.Ranges.{mostSegments};
 ghost use Rattle.model.specs.Equations.{sumT, sumV};
-ghost use Rattle.model.specs.State.{numbersAt};
+ghost use Rattle.model.specs.State.{numbersAt, setLists};
 ghost use Rattle.model.specs.Load.{sumFault};
-ghost use Rattle.lists.specs.Lent.{entry};
 ghost use Rattle.terms.specs.Says.{numbersSay};
-ghost use Rattle.terms.specs.Lent.{set, LongSet};
+ghost use Rattle.terms.specs.Lent.{setOf, LongSet};
 use rounding::WHOLE;
 
 // Where a refusal is at fault; reaches, segments and rows count from 1.
@@ -58,36 +60,75 @@ pub struct Numbers {
     pub s: u32,
 }
 
+// The ten lists of a set that is only read, lent as one; each at the place that its name below says.
+pub type Set<'a> = [&'a [u32]; 10];
+
+const E: usize = 0;
+
+const G: usize = 1;
+
+const L: usize = 2;
+
+const A: usize = 3;
+
+const B: usize = 4;
+
+const K: usize = 5;
+
+const KS: usize = 6;
+
+const H: usize = 7;
+
+const M: usize = 8;
+
+const S: usize = 9;
+
+// The four lists of a loading that are the same for every flow, lent as one.
+pub type Fixed<'a> = [&'a [u32]; 4];
+
+pub const CL: usize = 0;
+
+pub const CB: usize = 1;
+
+pub const KD: usize = 2;
+
+pub const START: usize = 3;
+
+// The lengths of a set's lists, for test 13.
+pub fn set_lengths(set: Set) -> [usize; 10]
+    ensures { λ r. ⌜ r ≡ map length (setLists (setOf (set .entry))) ⌝ }
+{
+    [
+        set[E].len(),
+        set[G].len(),
+        set[L].len(),
+        set[A].len(),
+        set[B].len(),
+        set[K].len(),
+        set[KS].len(),
+        set[H].len(),
+        set[M].len(),
+        set[S].len(),
+    ]
+}
+
 impl Numbers {
     // Entry i of the ten lists of a set, which are long enough for n segments.
-    pub fn at(
-        n: usize,
-        i: usize,
-        e: &[u32],
-        g: &[u32],
-        l: &[u32],
-        a: &[u32],
-        b: &[u32],
-        k: &[u32],
-        ks: &[u32],
-        h: &[u32],
-        m: &[u32],
-        s: &[u32],
-    ) -> Numbers
-        requires { ⌜ (i < n) × LongSet n (set now e g l a b k ks h m s) ⌝ }
-        ensures { λ r. ⌜ numbersSay r ≡ numbersAt (set entry e g l a b k ks h m s) i ⌝ }
+    pub fn at(n: usize, i: usize, set: Set) -> Numbers
+        requires { ⌜ (i < n) × (n ≤ mostSegments) × LongSet n (setOf set) ⌝ }
+        ensures { λ r. ⌜ numbersSay r ≡ numbersAt (setOf (set .entry)) i ⌝ }
     {
         Numbers {
-            e: e[i],
-            g: g[i],
-            l: l[i],
-            a: a[i],
-            b: b[i],
-            k: k[i],
-            ks: ks[i],
-            h: h[i],
-            m: m[i],
-            s: s[i],
+            e: set[E][i],
+            g: set[G][i],
+            l: set[L][i],
+            a: set[A][i],
+            b: set[B][i],
+            k: set[K][i],
+            ks: set[KS][i],
+            h: set[H][i],
+            m: set[M][i],
+            s: set[S][i],
         }
     }
 

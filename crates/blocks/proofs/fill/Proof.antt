@@ -25,7 +25,7 @@ loop-again c =
       omega (arith, i .0),
       omega (arith, i .0, more),
       filling-turn (i .2) (omega (arith, i .0, more, c .before .before .before .before .before .before .pre .2))
-          (c .highest-from .ensures ∙ rw (c .before .in-block .ensures, i .0)),
+          (c .highest-from .ensures ∙ rw (c .before .least .ensures, i .0)),
     )
 
 returns : tie.Need-returns Inv-loop μ-loop

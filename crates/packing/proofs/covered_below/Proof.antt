@@ -4,7 +4,7 @@ use Prim.Native.Nat.{_-_, _≤_}
 use native.Mathlib.Omega.{arith}
 use Rattle.model.specs.Pool.{coveredBelow}
 use Rattle.terms.specs.Lent.{tableIn}
-use Rattle.stretches.proofs.Packing.{below-start, below-turn, below-most}
+use Rattle.pool_laws.proofs.Packing.{below-start, below-turn, below-most}
 use borrow.Author.Needs.{needs}
 use Rattle.packing.proofs.covered_below.Statement.{statement}
 use Rattle.packing.proofs.covered_below.Tie as tie

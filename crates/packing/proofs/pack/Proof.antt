@@ -3,7 +3,7 @@ use Prim.Native.Nat.{_-_, _≤_}
 use native.Mathlib.Omega.{arith}
 use Rattle.model.specs.Ranges.{mostSegments}
 use Rattle.terms.specs.Lent.{tableIn}
-use Rattle.stretches.proofs.Packing.{Packing, packing-start, packing-turn, packing-end}
+use Rattle.pool_laws.proofs.Packing.{Packing, packing-start, packing-turn, packing-end}
 use borrow.Author.Needs.{needs}
 use Rattle.packing.proofs.pack.Statement.{statement}
 use Rattle.packing.proofs.pack.Tie as tie

@@ -2,7 +2,7 @@
 use mathlib.Core.Path.{sym, ap, _∙_}
 use native.Mathlib.Omega.{arith}
 use Rattle.model.specs.Pool.{closedSlot, closeFinding, closedTable}
-use Rattle.stretches.proofs.Tables.{number-clear}
+use Rattle.pool_laws.proofs.Tables.{number-clear}
 use Rattle.terms.specs.Lent.{tableIn}
 use borrow.Author.Needs.{needs}
 use Rattle.pool.proofs.close.Statement.{statement}

@@ -1,5 +1,5 @@
 -- `pool_test` meets its contract.
-use Rattle.lists.specs.Lists.{anyShorter}
+use Rattle.lists.specs.Lists.{anyShorter, anyUnder}
 use Rattle.model.specs.Pool.{sharedFault, poolTests}
 use borrow.Author.Needs.{needs}
 use Rattle.pool.proofs.pool_test.Statement.{statement}
@@ -10,12 +10,14 @@ unfolding poolTests
 returns c = rw (← (c .before .number-fault .ensures), c .if1 .taken)
 
 returns-2 : tie.Need-returns-2
-unfolding poolTests sharedFault anyShorter
-returns-2 c = rw (← (c .before .before .before .number-fault .ensures), c .before .before .if1 .left, ← (c .before .any-short .ensures), c .if2 .taken)
+unfolding poolTests sharedFault anyShorter anyUnder
+returns-2 c =
+    rw (← (c .before .before .before .before .number-fault .ensures), c .before .before .before .if1 .left, ← (c .before .any-short .ensures), c .if2 .taken)
 
 returns-3 : tie.Need-returns-3
-unfolding poolTests sharedFault anyShorter
-returns-3 c = rw (← (c .before .before .before .number-fault .ensures), c .before .before .if1 .left, ← (c .before .any-short .ensures), c .if2 .left)
+unfolding poolTests sharedFault anyShorter anyUnder
+returns-3 c =
+    rw (← (c .before .before .before .before .number-fault .ensures), c .before .before .before .if1 .left, ← (c .before .any-short .ensures), c .if2 .left)
 
 pub pool-test-spec : {M : Type 1} → statement M
-pool-test-spec = tie.close (tie.spec (λ c κs. search needs) returns (λ c κs. search needs) returns-2 returns-3)
+pool-test-spec = tie.close (tie.spec (λ c κs. search needs) returns (λ c. search needs) (λ c κs. search needs) returns-2 returns-3)

@@ -5,33 +5,37 @@ use Rattle.lists.specs.Lent.{plain}
 use Rattle.model.specs.Refusals.{passes, first}
 use Rattle.model.specs.Pool.{Pool, slotOf, poolTests}
 use Rattle.terms.specs.Says.{findingSays}
-use Rattle.terms.specs.Lent.{pool}
-use Rattle.slots.specs.Says.{slotSays}
-use Rattle.terms.specs.Lent.{columns}
+use Rattle.terms.specs.Lent.{columnsOf, pool}
+use Rattle.pool_table.specs.Says.{slotSays}
 use Rattle.pool.proofs.Stretched.{Stands, stands, report-answer, no-report}
 use borrow.Author.Needs.{needs}
 use Rattle.pool.proofs.report.Statement.{statement}
 use Rattle.pool.proofs.report.Tie as tie
 
+-- the function's entry, from behind the pool's own tests
+abbrev entry : tie.After-pool-test → tie.Start
+entry d = d .before .before .before .before
+
 -- what it is lent of the pool
 abbrev lent : tie.Start → Pool
-lent c = pool plain (c .args .channel .now) (c .args .storage .now) (c .args .sediment .now) (c .args .table .now)
+lent s = pool plain (s .args .channel .now) (s .args .storage .now) (s .args .sediment .now) (s .args .table .now)
 
 -- the pool's own tests pass, and the slot stands in the lists
-passed : (c : tie.After-enum-told) → first (poolTests (lent (c .before .before .before .before .before .before .before .before .before .before .before .before .before .before .before .before .before .before .before .before)) (c .before .before .before .before .before .before .before .before .before .before .before .before .before .before .before .before .before .before .before .before .args .river)) ≡ passes
+passed : (c : tie.After-enum-told) → let s = entry (c .before .before) in first (poolTests (lent s) (s .args .river)) ≡ passes
 passed c = sym (c .before .before .pool-test .ensures) ∙ ap findingSays (c .enum-told .given .1)
 
-named : (c : tie.After-enum-told) → let s = c .before .before .before .before .before .before .before .before .before .before .before .before .before .before .before .before .before .before .before .before in Stands (lent s) (s .args .river) (slotOf (lent s .table) (s .args .river))
+named : (c : tie.After-enum-told) → let s = entry (c .before .before) in Stands (lent s) (s .args .river) (slotOf (lent s .table) (s .args .river))
 named c = stands _ _ _ refl (passed c)
 
-at : (c : tie.After-taken) → let s = c .before .before .before .before .before .before .before .before .before .before .before .before .before .before .before .before .before .before .before .before .before .before in Stands (lent s) (s .args .river) (slotSays (c .taken .result))
+at : (c : tie.After-taken) → let s = entry (c .before .before .before .before) in Stands (lent s) (s .args .river) (slotSays (c .taken .result))
 at c = stands _ _ _ (c .taken .ensures) (passed (c .before .before))
 
 returns : tie.Need-returns
 returns c =
-    let fault = sym (c .before .before .before .pool-test .ensures) ∙ ap findingSays (c .before .found .given .1) in
-    let s = c .before .before .before .before .before .before .before .before .before .before .before .before .before .before .before .before .before .before .before .before .before in
-    sym (no-report (lent s) (s .args .river) fault (columns plain (s .args .e .now) (s .args .g .now) (s .args .l .now) (s .args .a .now) (s .args .b .now) (s .args .k .now) (s .args .ks .now) (s .args .h .now) (s .args .m .now) (s .args .s .now) (s .args .cl .now) (s .args .cb .now) (s .args .kd .now) (s .args .start .now)) (s .args .segment))
+    let d = c .before .before .before in
+    let s = entry d in
+    let fault = sym (d .pool-test .ensures) ∙ ap findingSays (c .before .found .given .1) in
+    sym (no-report (lent s) (s .args .river) fault (columnsOf (s .args .numbers) (s .args .fixed)) (s .args .segment))
 
 sub-taken : tie.Need-sub-taken
 sub-taken c = named (c .before) .from
@@ -50,16 +54,14 @@ part-report-end-3 c = let s = at (c .before .before .before .before) in omega (a
 
 returns-2 : tie.Need-returns-2
 returns-2 c =
-    let s = c .before .before .before .before .before .before .before .before .before .before .before .before .before .before .before .before .before .before .before .before .before .before .before .before .before .before .before .before in
-    c .report .ensures ∙ report-answer (lent s) (s .args .river) (slotSays (c .before .before .before .before .before .before .taken .result)) (c .before .before .before .before .before .before .taken .ensures) (passed (c .before .before .before .before .before .before .before .before)) _ _
+    let t = c .before .before .before .before .before .before in
+    let s = entry (t .before .before .before .before) in
+    c .report .ensures ∙ report-answer (lent s) (s .args .river) (slotSays (t .taken .result)) (t .taken .ensures) (passed (t .before .before)) _ _
 
 pub report-spec : {M : Type 1} → statement M
 report-spec =
     tie.close
     (tie.spec
-    (λ c κs. search needs) (λ c. search needs)
-    returns (λ c. search needs)
-    sub-taken
-    taken-requires (λ c. search needs) (λ c. search needs) (λ c. search needs)
+    (λ c κs. search needs) (λ c. search needs) returns (λ c. search needs) sub-taken taken-requires (λ c. search needs) (λ c. search needs) (λ c. search needs)
     (λ c. search needs) (λ c. search needs) (λ c. search needs) part-report-end (λ c. search needs) (λ c. search needs) (λ c. search needs) part-report-end-2 (λ c. search needs) (λ c. search needs) (λ c. search needs) part-report-end-3 (λ c κs. search needs)
     returns-2)

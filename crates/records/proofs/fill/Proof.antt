@@ -51,14 +51,14 @@ use Rattle.terms.specs.Says.{reachSays}
 use Rattle.terms.specs.declared.Reach.{Reach}
 use Rattle.terms.proofs.Reach as T
 use Rattle.terms.proofs.Reach.Laws as T′
+use Rattle.lists.proofs.least as least
+use Rattle.lists.proofs.least.Symbol as least-def
+use Rattle.lists.proofs.least.Symbol.{name as #least}
+use Rattle.lists.proofs.least.Met as least-thm
 use Rattle.sheet.proofs.fields.reach as read
 use Rattle.sheet.proofs.fields.reach.Symbol as read-def
 use Rattle.sheet.proofs.fields.reach.Symbol.{name as #read}
 use Rattle.sheet.proofs.fields.reach.Met as read-thm
-use Rattle.records.proofs.least as least
-use Rattle.records.proofs.least.Symbol as least-def
-use Rattle.records.proofs.least.Symbol.{name as #least}
-use Rattle.records.proofs.least.Met as least-thm
 use Rattle.records.proofs.put as put
 use Rattle.records.proofs.put.Symbol as put-def
 use Rattle.records.proofs.put.Symbol.{name as #put}
@@ -355,6 +355,6 @@ fill-spec 𝓤 H 𝓜 𝓖 𝓡 =
     entered 𝓤 H (tripleOf 𝓤 H (𝓖 .A) the-fn.signature (the-fn.spec 𝓤 H (𝓖 .A) (𝓜 .mem) (𝓡 .run)))
     (tables 𝓤 H 𝓜 𝓡 code.env .C) (tables 𝓤 H 𝓜 𝓡 code.env .Λ) #the-fn code.function (code.unfolded 𝓤 H 𝓜 𝓡)
     (meets 𝓤 H (𝓖 .A) (givenOf 𝓤 H 𝓜 𝓖) (𝓜 .mem) (𝓡 .run) (tablesOf 𝓤 H 𝓜 (tables 𝓤 H 𝓜 𝓡 code.env))
-    (cited 𝓤 H (Least 𝓤 H (𝓖 .A) (𝓜 .mem) (𝓡 .run)) 𝓜 𝓡 code.env #least least-def.routine code.calls-records·least (least-thm.met 𝓤 H 𝓜 𝓖 𝓡))
+    (cited 𝓤 H (Least 𝓤 H (𝓖 .A) (𝓜 .mem) (𝓡 .run)) 𝓜 𝓡 code.env #least least-def.routine code.calls-lists·least (least-thm.met 𝓤 H 𝓜 𝓖 𝓡))
     (cited 𝓤 H (Read 𝓤 H (𝓖 .A) (𝓜 .mem) (𝓡 .run)) 𝓜 𝓡 code.env #read read-def.routine code.calls-sheet·fields·reach (read-thm.met 𝓤 H 𝓜 𝓖 𝓡))
     (cited 𝓤 H (Put 𝓤 H (𝓖 .A) (𝓜 .mem) (𝓡 .run)) 𝓜 𝓡 code.env #put put-def.routine code.calls-records·put (put-thm.met 𝓤 H 𝓜 𝓖 𝓡)))

@@ -1,9 +1,10 @@
 -- `on_pool` meets its contract.
-use mathlib.Core.Path.{refl, sym, _∙_}
+use mathlib.Core.Path.{_≡_, refl, sym, _∙_}
+use mathlib.Core.List.{List}
 use borrow.Author.Needs.{needs}
-use Rattle.model.specs.Pool.{slotOf}
+use Rattle.model.specs.Pool.{Slot, slotOf}
 use Rattle.terms.specs.Lent.{tableIn}
-use Rattle.slots.specs.Says.{slotSays}
+use Rattle.pool_table.specs.Says.{slotSays}
 use Rattle.search.specs.Says.{searchSays}
 use Rattle.search.proofs.Answers.{Stands, refused-18, refused-shared, stands, on-stretch}
 use Rattle.search.proofs.on_pool.Statement.{statement}
@@ -15,25 +16,39 @@ returns c = refused-18 _ _ _ _ _ (sym (c .before .number-fault .ensures) ∙ c .
 returns-2 : tie.Need-returns-2
 returns-2 c = refused-shared _ _ _ _ _ (sym (c .before .before .number-fault .ensures) ∙ c .before .if1 .left) (c .if2 .taken)
 
--- the river's place in the table, and its stretch
-named : (c : tie.Else2) → let s = c .before .before .before .before .before .before in Stands (tableIn (s .args .table .now)) (s .args .channel .now) (s .args .river) (slotOf (tableIn (s .args .table .now)) (s .args .river))
-named c = let s = c .before .before .before .before .before .before in stands (tableIn (s .args .table .now)) (s .args .channel .now) (s .args .river) (s .args .highest .now) (s .args .limit) (sym (c .before .before .number-fault .ensures) ∙ c .before .if1 .left) (c .if2 .left) _ refl
+-- the function's entry, from behind its own tests; and from its call of the search, the river's slot
+abbrev entry : tie.Else2 → tie.Start
+entry c = c .before .before .before .before .before .before
+
+abbrev slot : tie.After-struct-known2 → tie.After-taken
+slot c = c .before .before
+
+-- what the search is lent and handed
+abbrev table : tie.Start → List Slot
+table s = tableIn (s .args .table .now)
+
+-- a slot that is the named river's has its place in the table, and its stretch
+standing : (c : tie.Else2) (x : Slot) → x ≡ slotOf (table (entry c)) (entry c .args .river) →
+    Stands (table (entry c)) (entry c .args .channel .now) (entry c .args .river) x
+standing c x e =
+    let s = entry c in
+    stands (table s) (s .args .channel .now) (s .args .river) (s .args .highest .now) (s .args .limit) (sym (c .before .before .number-fault .ensures) ∙ c .before .if1 .left) (c .if2 .left) x e
 
 sub-taken : tie.Need-sub-taken
-sub-taken c = named (c .before) .from
+sub-taken c = standing (c .before) _ refl .from
 
 taken-requires : tie.Need-taken-requires
-taken-requires c κs = named (c .before) .place
+taken-requires c κs = standing (c .before) _ refl .place
 
 part-alone-end : tie.Need-part-alone-end
-part-alone-end c =
-    let s = c .before .before .before .before .before .before .before .before .before .before in
-    stands (tableIn (s .args .table .now)) (s .args .channel .now) (s .args .river) (s .args .highest .now) (s .args .limit) (sym (c .before .before .before .before .before .before .number-fault .ensures) ∙ c .before .before .before .before .before .if1 .left) (c .before .before .before .before .if2 .left) (slotSays (c .before .before .taken .result)) (c .before .before .taken .ensures) .ends
+part-alone-end c = let t = slot c in standing (t .before .before) (slotSays (t .taken .result)) (t .taken .ensures) .ends
 
 returns-3 : tie.Need-returns-3
 returns-3 c =
-    let s = c .before .before .before .before .before .before .before .before .before .before .before .before in
-    on-stretch (tableIn (s .args .table .now)) (s .args .channel .now) (s .args .river) (s .args .highest .now) (s .args .limit) (sym (c .before .before .before .before .before .before .before .before .number-fault .ensures) ∙ c .before .before .before .before .before .before .before .if1 .left) (c .before .before .before .before .before .before .if2 .left) (slotSays (c .before .before .before .before .taken .result)) (c .before .before .before .before .taken .ensures) (searchSays (c .alone .result)) (c .alone .ensures)
+    let t = slot (c .before .before) in
+    let d = t .before .before in
+    let s = entry d in
+    on-stretch (table s) (s .args .channel .now) (s .args .river) (s .args .highest .now) (s .args .limit) (sym (d .before .before .number-fault .ensures) ∙ d .before .if1 .left) (d .if2 .left) (slotSays (t .taken .result)) (t .taken .ensures) (searchSays (c .alone .result)) (c .alone .ensures)
 
 pub on-pool-spec : {M : Type 1} → statement M
 on-pool-spec =

@@ -1,6 +1,6 @@
 -- `segment::pass` meets its contract: the row is fit, so that H is at least one whole, and at most two.
 use native.Mathlib.Omega.{arith}
-use Rattle.stability.proofs.Passes.{row-fits}
+use Rattle.sweep_laws.proofs.Passes.{row-fits}
 use borrow.Author.Needs.{needs}
 use Rattle.segment.proofs.pass.Statement.{statement}
 use Rattle.segment.proofs.pass.Tie as tie

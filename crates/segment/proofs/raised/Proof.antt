@@ -1,7 +1,7 @@
 -- `segment::raised` meets its contract: y + p is at most one whole, and so is C'.
 use mathlib.Core.Path.{refl}
 use native.Mathlib.Omega.{arith}
-use Rattle.stability.proofs.Passes.{onTop-most, product-fits}
+use Rattle.sweep_laws.proofs.Passes.{onTop-most, product-fits}
 use borrow.Author.Needs.{needs}
 use Rattle.segment.proofs.raised.Statement.{statement}
 use Rattle.segment.proofs.raised.Tie as tie

@@ -1,14 +1,11 @@
 -- `kth_test` meets its contract: each arm is an entry of document 01's list of tests. Assumes nothing.
-use mathlib.Core.Path.{_≡_, sym, ap, _∙_}
+use mathlib.Core.Path.{_≡_, sym}
 use Prim.Native.Nat.{ℕ, suc, _≤_, zero-le}
 use native.Mathlib.Omega.{arith}
 use borrow.Author.Needs.{needs}
-use lib.Dec.{ltb}
-use lib.ListN.{length, List·getD-eq-default}
-use Rattle.model.specs.Ranges.{mostSegments}
-use Rattle.model.specs.Sheet.{gaugeCount, gauges}
-use Rattle.model.specs.Refusals.{passes, row, test, testEach}
-use Rattle.model.specs.Load.{gaugeFault, sheetTests}
+use lib.ListN.{List·getD-eq-default}
+use Rattle.model.specs.Refusals.{passes}
+use Rattle.model.specs.Load.{sheetTests}
 use Rattle.sheet.proofs.kth_test.Statement.{statement}
 use Rattle.sheet.proofs.kth_test.Tie as tie
 
@@ -18,7 +15,7 @@ next h e = omega arith
 
 returns : tie.Need-returns
 unfolding sheetTests
-returns c = rw (c .before .before .match .keys1) (c .finding .ensures ∙ ap (test 1) (c .before .unmarked .ensures))
+returns c = rw (c .before .before .match .keys1) (rw (c .before .unmarked .ensures) at (c .finding .ensures))
 
 returns-2 : tie.Need-returns-2
 unfolding sheetTests
@@ -26,13 +23,11 @@ returns-2 c = rw (c .before .match .keys2) (c .walk .ensures)
 
 returns-3 : tie.Need-returns-3
 unfolding sheetTests
-returns-3 c =
-    let n = length (c .before .before .before .before .args .sheet .now) in
-    rw (c .before .before .match .keys3) (c .finding2 .ensures ∙ ap (λ end. test 4 (ltb end n)) (c .before .sheet-end .ensures))
+returns-3 c = rw (c .before .before .match .keys3) (rw (c .before .sheet-end .ensures) at (c .finding2 .ensures))
 
 returns-4 : tie.Need-returns-4
 unfolding sheetTests
-returns-4 c = rw (c .before .before .match .keys4) (c .finding3 .ensures ∙ ap (test 5) (c .before .header-fault .ensures))
+returns-4 c = rw (c .before .before .match .keys4) (rw (c .before .header-fault .ensures) at (c .finding3 .ensures))
 
 returns-5 : tie.Need-returns-5
 unfolding sheetTests
@@ -40,24 +35,19 @@ returns-5 c = rw (c .before .match .keys5) (c .reach-test .ensures)
 
 returns-6 : tie.Need-returns-6
 unfolding sheetTests
-returns-6 c =
-    rw (c .before .before .before .match .keys6)
-    (c .finding4 .ensures ∙ ap (λ n. test 7 (ltb mostSegments n)) (c .before .segment-count .ensures))
+returns-6 c = rw (c .before .before .match .keys6) (rw (c .before .segment-count .ensures) at (c .finding4 .ensures))
 
 returns-7 : tie.Need-returns-7
 unfolding sheetTests
-returns-7 c = rw (c .before .match .keys7) (c .row-test .ensures)
+returns-7 c = rw (c .before .before .match .keys7) (rw (c .before .steps .ensures) at (c .entries-test .ensures))
 
 returns-8 : tie.Need-returns-8
 unfolding sheetTests
-returns-8 c =
-    let sheet = c .before .before .before .before .args .sheet .now in
-    rw (c .before .before .match .keys8)
-    (c .gauge-test .ensures ∙ ap (λ n. testEach 9 row (gaugeCount sheet) (gaugeFault n (gauges sheet))) (c .before .segment-count2 .ensures))
+returns-8 c = rw (c .before .before .match .keys8) (rw (c .before .segment-count2 .ensures) at (c .entries-test2 .ensures))
 
 returns-9 : tie.Need-returns-9
 unfolding sheetTests
-returns-9 c = rw (c .before .match .keys9) (c .flow-row-test .ensures)
+returns-9 c = rw (c .before .before .match .keys9) (rw (c .before .steps2 .ensures) at (c .entries-test3 .ensures))
 
 returns-10 : tie.Need-returns-10
 unfolding sheetTests
@@ -81,6 +71,8 @@ kth-test-spec =
     (λ c κs. tt)
     (λ c κs. tt)
     (λ c. search needs)
+    (λ c κs. tt)
+    (λ c κs. tt)
     (λ c κs. tt)
     (λ c κs. tt)
     (λ c κs. tt)

@@ -4,23 +4,26 @@ use Prim.Native.Nat.{_-_, _<_}
 use native.Mathlib.Omega.{arith}
 use lib.ListN.{length}
 use Rattle.lists.specs.Lent.{plain}
-use Rattle.terms.specs.Lent.{set, state, working}
+use Rattle.terms.specs.Lent.{setOf, columnsOf, state, working}
 use Rattle.segment.specs.Says.{passedSays}
-use Rattle.sweep.specs.Step.{stepColumns}
 use Rattle.sweep.proofs.DownPass.{Down, down-inside, down-start, down-ready, down-turn, down-end}
 use Rattle.sweep.proofs.downward.Statement.{statement}
 use Rattle.sweep.proofs.downward.Tie as tie
 
 abbrev Inv-loop : tie.InvT-loop
-Inv-loop n u next e0 g0 l0 a0 b0 k0 ks0 h0 m0 s0 e g l a b k ks h m s cl cb channel storage sediment p₀ y₀ above₀ d₀ i₀ p y above d i =
-    Down n (set plain e0 g0 l0 a0 b0 k0 ks0 h0 m0 s0) (stepColumns plain e g l a b k ks h m s cl cb) (state plain channel storage sediment u 0) (working plain p₀ y₀) next i above (passedSays d) p y
+Inv-loop n u next old new fixed channel storage sediment p₀ y₀ above₀ d₀ i₀ p y above d i =
+    Down n (setOf old) (columnsOf new fixed) (state plain channel storage sediment u 0) (working plain p₀ y₀) next i above (passedSays d) p y
 
 abbrev μ-loop : tie.MeasureT-loop
-μ-loop n u next e0 g0 l0 a0 b0 k0 ks0 h0 m0 s0 e g l a b k ks h m s cl cb channel storage sediment p₀ y₀ above₀ d₀ i₀ p y above d i = n - i
+μ-loop n u next old new fixed channel storage sediment p₀ y₀ above₀ d₀ i₀ p y above d i = n - i
 
--- the function's entry, from a turn's beginning
+-- the function's entry, from where the loop begins
+abbrev entry : tie.After-slice-known2 Inv-loop μ-loop → tie.Start Inv-loop μ-loop
+entry c = c .before .before .before .before .before
+
+-- and from where a turn does
 abbrev start : tie.In-loop Inv-loop μ-loop → tie.Start Inv-loop μ-loop
-start c = c .before .before .before .before .before .before .before .before .before .before .before .before .before .before .before .before .before .before .before .before .before .before .before .before .before .before .before .before .before
+start c = entry (c .before .before)
 
 inside : (t : tie.In-loop Inv-loop μ-loop) →
     let at = t .before .loop in (at .i < 1024) × (at .i < length (at .p)) × (at .i < length (at .y))
@@ -37,14 +40,14 @@ loop-again c =
     down-turn (start t .pre) (t .loop-test .taken) (t .before .loop .inv) (c .before .before .before .before .before .before .pair-at .ensures) (c .before .before .before .before .channel-or-0 .ensures) (c .passed-down .ensures)
 
 returns : tie.Need-returns Inv-loop μ-loop
-returns c = down-end (c .before .before .before .before .before .before .before .before .before .before .before .before .before .before .before .before .before .before .before .before .before .before .before .before .before .before .before .before .before .pre) (c .loop-test .left) (c .before .loop .inv)
+returns c = down-end (entry (c .before .before) .pre) (c .loop-test .left) (c .before .loop .inv)
 
 pub downward-spec : {M : Type 1} → statement M
 downward-spec =
     tie.close
     (tie.spec
     Inv-loop μ-loop
-    (λ c. down-start (c .before .before .before .before .before .before .before .before .before .before .before .before .before .before .before .before .before .before .before .before .before .before .before .before .before .before .before .pre))
+    (λ c. down-start (entry c .pre))
     (λ c κs. let t = c in (t .loop-test .taken, start t .pre .pairs))
     (λ c. let t = c .before in omega (arith, t .loop-test .taken, start t .pre .pairs .few))
     (λ c. let t = c .before .before in omega (arith, t .loop-test .taken, start t .pre .figures .channel))

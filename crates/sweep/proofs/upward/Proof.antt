@@ -3,23 +3,26 @@
 use Prim.Native.Nat.{_-_}
 use native.Mathlib.Omega.{arith}
 use Rattle.lists.specs.Lent.{plain}
-use Rattle.terms.specs.Lent.{set, state, working}
-use Rattle.sweep.specs.Step.{stepColumns}
+use Rattle.terms.specs.Lent.{setOf, columnsOf, state, working}
 use Rattle.sweep.proofs.UpPass.{Up, up-start, Inside, up-inside, raise-ready, figures-ready, up-turn, up-end}
 use borrow.Author.Needs.{needs}
 use Rattle.sweep.proofs.upward.Statement.{statement}
 use Rattle.sweep.proofs.upward.Tie as tie
 
 abbrev Inv-loop : tie.InvT-loop
-Inv-loop n e0 g0 l0 a0 b0 k0 ks0 h0 m0 s0 e g l a b k ks h m s cl cb p y channel₀ storage₀ sediment₀ below₀ i₀ channel storage sediment below i =
-    Up n (set plain e0 g0 l0 a0 b0 k0 ks0 h0 m0 s0) (stepColumns plain e g l a b k ks h m s cl cb) (state plain channel₀ storage₀ sediment₀ 0 0) (working plain p y) i below channel storage sediment
+Inv-loop n old new fixed p y channel₀ storage₀ sediment₀ below₀ i₀ channel storage sediment below i =
+    Up n (setOf old) (columnsOf new fixed) (state plain channel₀ storage₀ sediment₀ 0 0) (working plain p y) i below channel storage sediment
 
 abbrev μ-loop : tie.MeasureT-loop
-μ-loop n e0 g0 l0 a0 b0 k0 ks0 h0 m0 s0 e g l a b k ks h m s cl cb p y channel₀ storage₀ sediment₀ below₀ i₀ channel storage sediment below i = i
+μ-loop n old new fixed p y channel₀ storage₀ sediment₀ below₀ i₀ channel storage sediment below i = i
 
--- the function's entry, from a turn's beginning
+-- the function's entry, from where the loop begins
+abbrev entry : tie.After-slice-known3 Inv-loop μ-loop → tie.Start Inv-loop μ-loop
+entry c = c .before .before .before .before .before
+
+-- and from where a turn does
 abbrev start : tie.In-loop Inv-loop μ-loop → tie.Start Inv-loop μ-loop
-start c = c .before .before .before .before .before .before .before .before .before .before .before .before .before .before .before .before .before .before .before .before .before .before .before .before .before .before .before .before .before
+start c = entry (c .before .before)
 
 inside : (t : tie.In-loop Inv-loop μ-loop) →
     let at = t .before .loop in Inside (start t .args .n) (start t .args .p .now) (start t .args .y .now) (at .i) (at .channel) (at .storage) (at .sediment)
@@ -32,14 +35,14 @@ loop-again c =
     up-turn (start t .pre) (t .loop-test .taken) (t .before .loop .inv) (c .before .before .before .before .before .before .before .pair-at .ensures) (r .0) (r .1) (c .new-figures .ensures)
 
 returns : tie.Need-returns Inv-loop μ-loop
-returns c = up-end (c .before .before .before .before .before .before .before .before .before .before .before .before .before .before .before .before .before .before .before .before .before .before .before .before .before .before .before .before .before .pre) (c .loop-test .left) (c .before .loop .inv)
+returns c = up-end (entry (c .before .before) .pre) (c .loop-test .left) (c .before .loop .inv)
 
 pub upward-spec : {M : Type 1} → statement M
 upward-spec =
     tie.close
     (tie.spec
     Inv-loop μ-loop
-    (λ c. up-start (c .before .before .before .before .before .before .before .before .before .before .before .before .before .before .before .before .before .before .before .before .before .before .before .before .before .before .before .pre))
+    (λ c. up-start (entry c .pre))
     (λ c. search needs) (λ c κs. let t = c in (inside t .less, start t .pre .pairs)) (λ c. omega (arith, inside (c .before)))
     (λ c. omega (arith, inside (c .before .before))) (λ c. omega (arith, inside (c .before .before)))
     (λ c. omega (arith, inside (c .before .before .before)))

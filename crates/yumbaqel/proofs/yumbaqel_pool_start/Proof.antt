@@ -6,7 +6,7 @@ use Rattle.yumbaqel.proofs.yumbaqel_pool_start.Tie as tie
 returns : tie.Need-returns
 returns c =
     let left = c .before .before .before .before .before .before .before .before .before .before .before .before .before .start .ensures in
-    (rw (c .before .before .before .before .start-finding .ensures, left .0) at (c .put-finding .ensures), left .1)
+    (rw (c .before .before .before .before .finding-of .ensures, left .0) at (c .put-finding .ensures), left .1)
 
 pub yumbaqel-pool-start-spec : {M : Type 1} → statement M
 yumbaqel-pool-start-spec =
@@ -15,8 +15,8 @@ yumbaqel-pool-start-spec =
     (λ c κs. search needs)
     (λ c κs. search needs)
     (λ c κs. search needs)
-    (λ c. c .before .before .before .before .before .before .before .before .before .before .before .before .channel .given)
-    (λ c. c .before .before .before .before .before .before .before .before .before .before .storage .given)
-    (λ c. c .before .before .before .before .before .before .before .before .sediment .given)
-    (λ c. c .before .before .before .before .before .before .highest .given)
+    (λ c. search needs)
+    (λ c. search needs)
+    (λ c. search needs)
+    (λ c. search needs)
     returns)

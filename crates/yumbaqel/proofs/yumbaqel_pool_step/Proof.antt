@@ -6,7 +6,7 @@ use Rattle.yumbaqel.proofs.yumbaqel_pool_step.Tie as tie
 returns : tie.Need-returns
 returns c =
     let left = c .before .before .before .before .before .before .before .before .before .before .before .before .before .before .before .before .before .step .ensures in
-    (rw (c .before .before .before .before .step-finding .ensures, left .0) at (c .put-finding .ensures), left .1)
+    (rw (c .before .before .before .before .finding-of .ensures, left .0) at (c .put-finding .ensures), left .1)
 
 pub yumbaqel-pool-step-spec : {M : Type 1} → statement M
 yumbaqel-pool-step-spec =
@@ -15,10 +15,10 @@ yumbaqel-pool-step-spec =
     (λ c κs. search needs)
     (λ c κs. search needs)
     (λ c κs. search needs)
-    (λ c. c .before .before .before .before .before .before .before .before .before .before .before .before .before .before .before .before .channel .given)
-    (λ c. c .before .before .before .before .before .before .before .before .before .before .before .before .before .before .storage .given)
-    (λ c. c .before .before .before .before .before .before .before .before .before .before .before .before .sediment .given)
-    (λ c. c .before .before .before .before .before .before .before .before .before .before .highest .given)
-    (λ c. c .before .before .before .before .before .before .before .before .p .given)
-    (λ c. c .before .before .before .before .before .before .y .given)
+    (λ c. search needs)
+    (λ c. search needs)
+    (λ c. search needs)
+    (λ c. search needs)
+    (λ c. search needs)
+    (λ c. search needs)
     returns)

@@ -6,7 +6,7 @@ use Rattle.yumbaqel.proofs.yumbaqel_start.Tie as tie
 returns : tie.Need-returns
 returns c =
     let outcome = c .before .before .before .before .before .before .before .before .before .before .before .before .before .before .start .ensures _ _ in
-    let put = c .put-start .ensures in
+    let put = c .put-river .ensures in
     (rw (outcome .answer) at (put .0), (rw (put .1 .0, put .1 .1) (outcome .state), outcome .highest))
 
 pub yumbaqel-start-spec : {M : Type 1} → statement M
@@ -15,8 +15,8 @@ yumbaqel-start-spec =
     (tie.spec
     (λ c κs. search needs)
     (λ c κs. search needs)
-    (λ c. c .before .before .before .before .before .before .before .before .before .before .before .before .before .channel .given)
-    (λ c. c .before .before .before .before .before .before .before .before .before .before .before .storage .given)
-    (λ c. c .before .before .before .before .before .before .before .before .before .sediment .given)
-    (λ c. c .before .before .before .before .before .before .before .highest .given)
+    (λ c. search needs)
+    (λ c. search needs)
+    (λ c. search needs)
+    (λ c. search needs)
     returns)

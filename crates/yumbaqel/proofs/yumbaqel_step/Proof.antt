@@ -6,7 +6,7 @@ use Rattle.yumbaqel.proofs.yumbaqel_step.Tie as tie
 returns : tie.Need-returns
 returns c =
     let outcome = c .before .before .before .before .before .before .before .before .before .before .before .before .before .before .before .before .before .before .step .ensures in
-    let put = c .put-step .ensures in
+    let put = c .put-river .ensures in
     (rw (outcome .answer) at (put .0), (rw (put .1 .0, put .1 .1) (outcome .state), (outcome .highest, outcome .working)))
 
 pub yumbaqel-step-spec : {M : Type 1} → statement M
@@ -15,10 +15,10 @@ yumbaqel-step-spec =
     (tie.spec
     (λ c κs. search needs)
     (λ c κs. search needs)
-    (λ c. c .before .before .before .before .before .before .before .before .before .before .before .before .before .before .before .before .before .channel .given)
-    (λ c. c .before .before .before .before .before .before .before .before .before .before .before .before .before .before .before .storage .given)
-    (λ c. c .before .before .before .before .before .before .before .before .before .before .before .before .before .sediment .given)
-    (λ c. c .before .before .before .before .before .before .before .before .before .before .before .highest .given)
-    (λ c. c .before .before .before .before .before .before .before .before .before .p .given)
-    (λ c. c .before .before .before .before .before .before .before .y .given)
+    (λ c. search needs)
+    (λ c. search needs)
+    (λ c. search needs)
+    (λ c. search needs)
+    (λ c. search needs)
+    (λ c. search needs)
     returns)

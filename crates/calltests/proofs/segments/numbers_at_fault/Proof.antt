@@ -2,19 +2,18 @@
 use mathlib.Core.Path.{sym, _∙_}
 use Prim.Native.Nat.{_-_}
 use Rattle.lists.proofs.Lowest.{Searching, searching-start, searching-hit, searching-miss, searching-end}
-use Rattle.lists.specs.Lent.{plain}
 use Rattle.model.specs.Calls.{oldFault}
-use Rattle.terms.specs.Lent.{set}
+use Rattle.terms.specs.Lent.{setOf}
 use Rattle.calltests.proofs.RiverLaws.{old-fault-at}
 use borrow.Author.Needs.{needs}
 use Rattle.calltests.proofs.segments.numbers_at_fault.Statement.{statement}
 use Rattle.calltests.proofs.segments.numbers_at_fault.Tie as tie
 
 abbrev Inv-loop : tie.InvT-loop
-Inv-loop n e g l a b k ks h m s i₀ i = Searching (oldFault n (set plain e g l a b k ks h m s)) n i
+Inv-loop n numbers i₀ i = Searching (oldFault n (setOf numbers)) n i
 
 abbrev μ-loop : tie.MeasureT-loop
-μ-loop n e g l a b k ks h m s i₀ i = n - i
+μ-loop n numbers i₀ i = n - i
 
 returns : tie.Need-returns Inv-loop μ-loop
 returns c = searching-hit (c .before .before .before .before .loop .inv) (c .before .before .before .loop-test .taken) (old-fault-at _ _ _ _ (rw (← (c .before .before .at .ensures)) (sym (c .before .numbers-fault .ensures) ∙ c .if1 .taken)))

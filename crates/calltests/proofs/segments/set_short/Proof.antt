@@ -1,16 +1,12 @@
 -- `segments::set_short` meets its contract.
-use Rattle.lists.specs.Lists.{anyShorter}
+use mathlib.Core.Path.{_∙_}
+use Rattle.lists.proofs.Shorter.{under-lengths}
 use borrow.Author.Needs.{needs}
 use Rattle.calltests.proofs.segments.set_short.Statement.{statement}
 use Rattle.calltests.proofs.segments.set_short.Tie as tie
 
 returns : tie.Need-returns
-unfolding anyShorter
-returns c = rw (c .or-short10 .ensures, c .before .or-short9 .ensures, c .before .before .or-short8 .ensures, c .before .before .before .or-short7 .ensures, c .before .before .before .before .or-short6 .ensures, c .before .before .before .before .before .or-short5 .ensures, c .before .before .before .before .before .before .or-short4 .ensures, c .before .before .before .before .before .before .before .or-short3 .ensures, c .before .before .before .before .before .before .before .before .or-short2 .ensures, c .before .before .before .before .before .before .before .before .before .or-short .ensures)
+returns c = c .any-short .ensures ∙ rw (c .before .before .set-lengths .ensures) (under-lengths _ _)
 
 pub set-short-spec : {M : Type 1} → statement M
-set-short-spec =
-    tie.close
-    (tie.spec
-    (λ c κs. search needs) (λ c κs. search needs) (λ c κs. search needs) (λ c κs. search needs) (λ c κs. search needs) (λ c κs. search needs)
-    (λ c κs. search needs) (λ c κs. search needs) (λ c κs. search needs) (λ c κs. search needs) returns)
+set-short-spec = tie.close (tie.spec (λ c κs. search needs) (λ c. search needs) (λ c κs. search needs) returns)

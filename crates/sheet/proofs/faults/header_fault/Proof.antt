@@ -1,6 +1,7 @@
 -- `header_fault` meets its contract. Assumes nothing.
 use mathlib.Core.Path.{_≡_, refl, sym, ap, ap₂, _∙_}
 use mathlib.Core.Bool.{Bool, true, false, _||_, or-false}
+use borrow.Author.Needs.{needs}
 use Rattle.model.specs.Ranges.{_to_, outside, anyOutside, flows, mostSteps}
 use Rattle.sheet.proofs.faults.header_fault.Statement.{statement}
 use Rattle.sheet.proofs.faults.header_fault.Tie as tie
@@ -33,12 +34,17 @@ header-fault-spec =
     (tie.spec
     (λ c κs. tt)
     (λ c κs. tt)
+    (λ c. search needs)
     (λ c κs. tt)
     (λ c κs. tt)
+    (λ c. search needs)
+    (λ c κs. tt)
+    (λ c. search needs)
     (λ c κs. tt)
     (λ c κs. tt)
+    (λ c. search needs)
     (λ c κs. tt)
     (λ c κs. tt)
-    (λ c κs. tt)
+    (λ c. search needs)
     (λ c κs. tt)
     returns)

@@ -57,6 +57,7 @@ reach-fault-spec =
     loop-holds
     (λ c κs. search needs)
     (λ c κs. tt)
+    (λ c. search needs)
     (λ c κs. tt)
     returns
     (λ c. omega arith)

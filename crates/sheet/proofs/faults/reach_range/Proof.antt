@@ -3,7 +3,7 @@ use mathlib.Core.Path.{ap}
 use borrow.Author.Needs.{needs}
 use lib.ListN.{List·getD-map}
 use Rattle.model.specs.Ranges.{_to_, reachRanges}
-use Rattle.sheet.specs.Tables.{rangeSays}
+use Rattle.limits.specs.Says.{rangeSays}
 use Rattle.sheet.proofs.Tables.{codedRange}
 use Rattle.sheet.proofs.faults.reach_range.Statement.{statement}
 use Rattle.sheet.proofs.faults.reach_range.Tie as tie

@@ -7,7 +7,7 @@ returns : tie.Need-returns
 unfolding rowFault
 returns c = λ starts concentrations row.
     rw (
-      c .before .starts-late .ensures starts concentrations _ row,
+      c .before .starts-late .ensures starts (row .before-is) (row .start-is),
       c .outside .ensures,
       row .start-is,
       row .figure-is,

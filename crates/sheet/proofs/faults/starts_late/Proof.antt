@@ -6,11 +6,10 @@ use Rattle.sheet.proofs.faults.starts_late.Statement.{statement}
 use Rattle.sheet.proofs.faults.starts_late.Tie as tie
 
 returns : tie.Need-returns
-returns c = λ starts concentrations x row. late-first starts _ _ (row .start-is) (c .if1 .taken)
+returns c = λ starts b s. late-first starts _ _ s (c .if1 .taken)
 
 returns-2 : tie.Need-returns-2
-returns-2 c = λ starts concentrations x row.
-    c .not-rising .ensures starts (row .before-is) (row .start-is) ∙ late-next starts _ (omega arith)
+returns-2 c = λ starts b s. c .not-rising .ensures starts b s ∙ late-next starts _ (omega arith)
 
 pub starts-late-spec : {M : Type 1} → statement M
 starts-late-spec = tie.close (tie.spec returns (λ c κs. tt) returns-2)

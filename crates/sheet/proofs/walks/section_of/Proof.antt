@@ -4,7 +4,8 @@ use Prim.Native.Nat.{ℕ, zero, suc, _≤_}
 use native.Mathlib.Omega.{arith}
 use borrow.Author.Needs.{needs}
 use lib.ListN.{getD, List·getD-map}
-use Rattle.sheet.specs.Tables.{sectionSays, allSections, noSection}
+use Rattle.limits.specs.Says.{sectionSays}
+use Rattle.sheet.specs.Tables.{allSections, noSection}
 use Rattle.sheet.proofs.Tables.{codedSection}
 use Rattle.sheet.proofs.walks.section_of.Statement.{statement}
 use Rattle.sheet.proofs.walks.section_of.Tie as tie

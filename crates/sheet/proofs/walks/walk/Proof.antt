@@ -6,7 +6,8 @@ use borrow.Author.Needs.{needs}
 use lib.ListN.{length, getD}
 use Rattle.model.specs.Ranges.{outside}
 use Rattle.model.specs.Sheet.{field, sections, reachCountAt}
-use Rattle.sheet.specs.Tables.{sectionSays, noSection}
+use Rattle.limits.specs.Says.{sectionSays}
+use Rattle.sheet.specs.Tables.{noSection}
 use Rattle.sheet.proofs.Sections.{section-few, section-entry}
 use Rattle.sheet.proofs.Walking.{Walking, walking-start, walking-end, walking-short, walking-count, walking-cut, walking-on}
 use Rattle.sheet.proofs.walks.walk.Statement.{statement}
@@ -85,6 +86,7 @@ walk-spec =
     returns
     (λ c κs. omega (arith, less (c .before), few (c .before)))
     (λ c κs. tt)
+    (λ c. search needs)
     (λ c κs. tt)
     returns-2
     (λ c κs. (omega (arith, few (c .before .before .before .before .before .before)), search needs))

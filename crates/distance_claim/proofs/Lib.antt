@@ -1,0 +1,6 @@
+pub mod Tests
+pub mod ReadBack
+pub mod Distance
+pub mod Unique
+pub mod Reports
+pub mod Claim

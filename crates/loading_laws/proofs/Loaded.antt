@@ -1,0 +1,122 @@
+-- A river just loaded passes the tests of a start: what 13 and 14 look at has passed 3, 6, 7 and 12. And its lists are what a call is to be lent.
+use mathlib.Core.Path.{_≡_, refl, ap, _∙_}
+use mathlib.Core.Bool.{Bool, true, false, not, cond, _&&_}
+use mathlib.Core.List.{List, _++_, map}
+use Prim.Native.Nat.{ℕ, suc, _<_, _≤_}
+use native.Mathlib.Omega.{arith}
+use borrow.Author.Tests.{ltb-false, le-ltb}
+use lib.Dec.{eqb, ltb}
+use lib.ListN.{length}
+use Rattle.lists.specs.Lists.{over, anyShorter}
+use Rattle.lists.proofs.Lowest.{lowest-end}
+use Rattle.lists.proofs.Shorter.{neither}
+use Rattle.model.specs.Ranges.{outside, concentration, mostKd, mostSegments}
+use Rattle.model.specs.Sheet.{flowRowCount, segmentCount}
+use Rattle.model.specs.Flow.{Course, courseOf, reachAt}
+use Rattle.model.specs.HalfStep.{isLast, gOf, numbers, Segment, loadedSegment}
+use Rattle.model.specs.State.{Columns, columnLists, State, stateLists, loadedSegments, writeSegments}
+use Rattle.model.specs.Refusals.{segment, accepted, passes, testEach, first}
+use Rattle.model.specs.Load.{sumFault, sheetTests, courseTests, riverTests, listTests, loadTests, Loaded, loaded, loadAnswer, loadColumns}
+use Rattle.model.specs.Highest.{blocksFault}
+use Rattle.model.specs.Calls.{riverFault, numbersFault, segmentFault, startFault, startTests}
+use Rattle.model.specs.Runs.{LoadedFor}
+use Rattle.model.specs.Claim.{LoadedLists}
+use Rattle.model.specs.PoolClaim.{OwnLists}
+use Rattle.model.proofs.Refusals.{all-pass, first-rest, first-both, flows-clear, test-clear, each-clear, each-passes, outcome-passes, accepted-passes, accepted-values}
+use Rattle.loading_laws.proofs.Sheets.{FitReach, right, river-length}
+use Rattle.loading_laws.proofs.AsLoaded.{written-long, segments-written, segment-as-loaded, set-as-loaded}
+
+-- ---- what a start looks at
+
+-- the last g is 0
+pub last-g : (course : Course) (n i : ℕ) → length (course .river) ≡ n → (eqb (suc i) n && not (eqb (gOf course i) 0)) ≡ false
+unfolding gOf isLast
+last-g course n i e = rw (← e) (go (eqb (suc i) (length (course .river))) _)
+  where
+    go : (t : Bool) (g : ℕ) → (t && not (eqb (cond t 0 g) 0)) ≡ false
+    go true g = refl
+    go false g = refl
+
+-- 14, of a segment whose reach is fit and whose numbers passed 12
+pub segment-passes : (course : Course) (n i : ℕ) → length (course .river) ≡ n → sumFault (numbers course i) ≡ false → FitReach (reachAt course i) →
+    segmentFault (eqb (suc i) n) (loadedSegment course i) ≡ false
+unfolding segmentFault numbersFault loadedSegment numbers
+segment-passes course n i e sums fit = rw (sums, last-g course n i e, le-ltb mostKd (reachAt course i .kd) (fit .kd), fit .cl, fit .cb, fit .start)
+
+-- ---- the river
+
+module _ (sheet : List ℕ) (r records : ℕ) (columns : Columns) (front : first (riverTests sheet) ≡ passes)
+    (lists : first (listTests sheet r records columns) ≡ passes) where
+  -- the flow is one of the sheet's
+  pub known : r ≤ flowRowCount sheet
+  unfolding listTests
+  known = ltb-false _ _ (neither _ _ (neither _ _ (test-clear 13 _ (all-pass (listTests sheet r records columns) lists .0)) .0) .0)
+
+  -- the loading is accepted
+  pub loads : loadAnswer sheet r records columns ≡ accepted (loaded sheet)
+  unfolding loadAnswer loadTests
+  loads = outcome-passes (loadTests sheet r records columns) (loaded sheet) (first-rest (riverTests sheet) (listTests sheet r records columns) front ∙ lists)
+
+  -- the numbers of every segment passed 12
+  pub sums-pass : (i : ℕ) → i < segmentCount sheet → sumFault (numbers (courseOf sheet r) i) ≡ false
+  unfolding courseTests
+  sums-pass =
+      let n = segmentCount sheet in
+      let passed = first-both (sheetTests sheet) (courseTests n (flowRowCount sheet) (courseOf sheet)) front .1 in
+      let flows = all-pass (courseTests n (flowRowCount sheet) (courseOf sheet)) passed .1 .1 .0 in
+      each-clear 12 segment n (λ i. sumFault (numbers (courseOf sheet r) i))
+      (flows-clear (flowRowCount sheet) (λ r. testEach 12 segment n (λ i. sumFault (numbers (courseOf sheet r) i))) flows r known)
+
+  -- the lists that the loading leaves
+  abbrev pub leftColumns : Columns
+  leftColumns = writeSegments (loadedSegments sheet r) columns
+
+  -- they hold the sheet's segments for flow r
+  pub left-loaded : LoadedFor sheet r (record { count = segmentCount sheet; columns = leftColumns })
+  left-loaded = record { count = refl; segments = segments-written (loadedSegment (courseOf sheet r)) (segmentCount sheet) columns }
+
+  -- no segment is at fault
+  pub start-clear : (i : ℕ) → i < segmentCount sheet → startFault (segmentCount sheet) leftColumns i ≡ false
+  unfolding startFault
+  start-clear i h =
+      let ok = right sheet (first-both (sheetTests sheet) _ front .0) in
+      rw (segment-as-loaded left-loaded i h)
+      (segment-passes (courseOf sheet r) (segmentCount sheet) i (river-length sheet r) (sums-pass i h) (ok .fit r i h))
+
+  -- 13: the lists have an entry for each segment
+  pub lists-long : (before : State) → OwnLists (segmentCount sheet) before → anyShorter (segmentCount sheet) (columnLists leftColumns ++ stateLists before) ≡ false
+  unfolding writeSegments anyShorter
+  lists-long before own =
+      let n = segmentCount sheet in
+      let long : (part : Segment → ℕ) (list : List ℕ) → ltb (length (over (map part (loadedSegments sheet r)) list)) n ≡ false =
+      λ part list. le-ltb (length (over (map part (loadedSegments sheet r)) list)) n (written-long (loadedSegment (courseOf sheet r)) n part list) in
+      let equal : (m : ℕ) → m ≡ n → ltb m n ≡ false = λ m e. le-ltb m n (omega arith) in
+      simp (long, equal (length (before .channel)) (own .channel), equal (length (before .storage)) (own .storage), equal (length (before .sediment)) (own .sediment))
+
+  -- 13, with the count of segments
+  pub river-clear : (before : State) → OwnLists (segmentCount sheet) before → riverFault (segmentCount sheet) (columnLists leftColumns ++ stateLists before) ≡ false
+  unfolding riverFault outside
+  river-clear before own =
+      let n = segmentCount sheet in
+      let ok = right sheet (first-both (sheetTests sheet) _ front .0) in
+      rw (le-ltb n 1 (ok .some), le-ltb mostSegments n (ok .most)) (lists-long before own)
+
+  -- a start on these lists, on any state of as many segments and on enough highest figures passes
+  pub start-passes : (before : State) → OwnLists (segmentCount sheet) before → (highest : List ℕ) → blocksFault (segmentCount sheet) highest ≡ false →
+      (u : ℕ) → outside concentration u ≡ false → first (startTests (segmentCount sheet) leftColumns before highest u) ≡ passes
+  unfolding startTests
+  start-passes before own highest enough u e =
+      let n = segmentCount sheet in
+      let low = lowest-end (startFault n leftColumns) n start-clear in
+      rw (river-clear before own, enough, each-passes 14 segment n (startFault n leftColumns) (omega (arith, low)), e)
+
+-- what an accepted loading leaves is what a call is to be lent
+pub loaded-lists : LoadedLists
+unfolding loadColumns loaded loadAnswer loadTests
+loaded-lists sheet r records columns v e =
+    let tests = loadTests sheet r (length records) columns in
+    let count : segmentCount sheet ≡ v .segments = ap (λ (x : Loaded). x .segments) (accepted-values tests (loaded sheet) v e) in
+    let passed = first-both (riverTests sheet) (listTests sheet r (length records) columns) (accepted-passes tests (loaded sheet) (rw e tt)) in
+    let lists : LoadedFor sheet r (record { count = v .segments; columns = loadColumns sheet r (length records) columns }) =
+    rw (← count, e) (left-loaded sheet r (length records) columns (passed .0) (passed .1)) in
+    record { known = known sheet r (length records) columns (passed .0) (passed .1); lists = lists; set = set-as-loaded lists }

@@ -1,8 +1,0 @@
-pub mod Loaded
-pub mod Lengths
-pub mod Answers
-pub mod Opens
-pub mod Follows
-pub mod Opening
-pub mod Calls
-pub mod Claim
