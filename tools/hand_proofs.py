@@ -547,27 +547,27 @@ module _ {MODEL} (W : Given 𝓤 H A) {RUN}
 
 
 def fill():
-    types = ["tyUnit", "table-ty", "sheet-ty", "word", "word", "word", "word", "tyBool", "tyUnit", "ref-ty", "lent-ty", "T′.mir"]
+    types = ["tyUnit", "table-ty", "sheet-ty", "word", "word", "tyBool", "tyUnit", "ref-ty", "lent-ty", "T′.mir"]
     count = len(types)
     kept = ["table", "alive", "sheet-alive", "sheet"]
-    test = lambda w: f"(bin ! {w.whole('_5')} {w.whole('_4')} tt)"
+    test = lambda w: f"(bin ! {w.whole('_4')} {w.whole('_3')} tt)"
 
     # a turn that fills one entry
     more = Trace(own_locals(count) + kept, 10)
-    more.assign("_7", test(more), "(tt, tt)")
-    more.line(f"rewrite ! {more.at('_7')} (λ (t : Bool). ‵ (fat fullShare tyBool l7 0 (vbool t))) e refl $ stays ! {more.whole('_7')} $")
-    more.reborrow("_1", "_9", "_10", "room")
+    more.assign("_5", test(more), "(tt, tt)")
+    more.line(f"rewrite ! {more.at('_5')} (λ (t : Bool). ‵ (fat fullShare tyBool l5 0 (vbool t))) e refl $ stays ! {more.whole('_5')} $")
+    more.reborrow("_1", "_7", "_8", "room")
     more.note("`reach`")
     more.line(more.move("sheet-alive", "sheet") + "use2 W (raw (Read 𝓤 H A at-mem run .pre (to-read (i .0))) ⊛ ‵ Sheet) (goes-read (i .0) i-fits) $ split ! $")
     more.replace(2, "pre", "sheet")
-    more.line(f"calls-at ! fm (Read 𝓤 H A at-mem run) known-read (to-read (i .0)) {more.locals('_2', '_5')} (λ u.")
+    more.line(f"calls-at ! fm (Read 𝓤 H A at-mem run) known-read (to-read (i .0)) {more.locals('_2', '_4')} (λ u.")
     more.line("use1 W (later (some (λ (r : Reach). ((‵ (flft κ′ q′) ⊛ ‵ ftrue) ⊛ ‵ (T.the-row .own r (u ∷ []))) ⊛ raw (ensured 𝓤 H A read.ended (read.clauses 𝓤 H A at-mem run) (κ′, tt) (y, (i .0, tt)) tt r)))) (id⊢ 𝓤 _) $ await ! tt $ pick ! (λ r.")
     more.replace(1, "result", "says")
     text = "split ! $ " + more.move("says") + "use1 W (raw (fact 𝓤 (reachSays r ≡ reachOn (y .now) (i .0)))) (said-read (i .0) r) $ heard ! (reachSays r ≡ reachOn (y .now) (i .0)) (λ is-read. "
     more.replace(1)
     text += more.split("result", "sheet-alive", "record") + more.split("sheet-alive", "sheet-alive", "true") + more.drop("true") + more.move("record")
     more.line(text)
-    more.line(f"peeks ! T.the-row (Is T.the-row) (shows 𝓤 H A T.the-row) r (u ∷ []) (λ is. land ! (from ! (stop !)) (init ! {more.at('_11')} refl {REACH_TYPED.format('r', 'is')}) $")
+    more.line(f"peeks ! T.the-row (Is T.the-row) (shows 𝓤 H A T.the-row) r (u ∷ []) (λ is. land ! (from ! (stop !)) (init ! {more.at('_9')} refl {REACH_TYPED.format('r', 'is')}) $")
     more.note("`put`: the list is lent again, for a lifetime ν that is made for the call")
     more.line("lft-new ! tt (λ ν.")
     more.replace(0, "lent-alive")
@@ -577,7 +577,7 @@ def fill():
     more.line("rewrite ! 0 (λ (m : ℕ). ‵ (MutSlice (named 0) (ν ∷ []) T.the-row .own (lent δ (i .0)) (sliceVal (b, o) m ∷ []))) (long i) refl $")
     more.line(more.move("lent-alive", "lent", "record") + "use3 W (raw (Put 𝓤 H A at-mem run .pre (to-put ν δ (i .0) r u))) (goes-put ν δ (i .0) r u i-fits) $")
     more.replace(3, "pre")
-    more.line(f"calls-at ! fm (Put 𝓤 H A at-mem run) known-put (to-put ν δ (i .0) r u) {more.locals('_10', '_5', '_11')} (λ w.")
+    more.line(f"calls-at ! fm (Put 𝓤 H A at-mem run) known-put (to-put ν δ (i .0) r u) {more.locals('_8', '_4', '_9')} (λ w.")
     more.line("use1 W (later (some (λ (t : Unit {0}). ((‵ (flft (ν ∷ []) fullShare) ⊛ ‵ ftrue) ⊛ ‵ (Nothing .own t (w ∷ []))) ⊛ raw (ensured 𝓤 H A put.ended (put.clauses 𝓤 H A at-mem run) (ν ∷ [], tt) (put-args δ (i .0) r) tt t)))) (id⊢ 𝓤 _) $ await ! tt $ pick ! (λ t.")
     more.replace(1, "result", "says")
     text = "split ! $ " + more.move("says") + "use1 W (some (λ (zs : List Reach × (Unit {0} × (Unit {0} × Unit {0}))). ‵ (lasts put.ended (ν ∷ [], tt) (put-args δ (i .0) r) zs) ⊛ raw (fact 𝓤 (zs .0 ≡ set (F (i .0)) (i .0) r)))) (id⊢ 𝓤 _) $ pick ! (λ zs. split ! $ "
@@ -589,7 +589,7 @@ def fill():
     text += more.move("as-long") + "feqL ! (λ l. "
     more.replace(1)
     more.line(text + more.drop("others"))
-    more.line(more.split("result", "lent-alive", "unit") + more.move("unit") + f"peeks ! Nothing (Is Nothing) (shows 𝓤 H A Nothing) t (w ∷ []) (λ is-unit. land ! (from ! (stop !)) (init ! {more.at('_8')} refl (unit-typed w is-unit)) $ drop ! $")
+    more.line(more.split("result", "lent-alive", "unit") + more.move("unit") + f"peeks ! Nothing (Is Nothing) (shows 𝓤 H A Nothing) t (w ∷ []) (λ is-unit. land ! (from ! (stop !)) (init ! {more.at('_6')} refl (unit-typed w is-unit)) $ drop ! $")
     more.replace(1)
     more.note("the lifetime ends, and the list comes back")
     text = more.split("lent-alive", "lent-alive", "true") + more.drop("true") + more.move("lent-alive") + "lft-end ! tt $ "
@@ -599,40 +599,29 @@ def fill():
     more.replace(3, "table", "alive")
     more.line("rewrite ! 0 (λ (m : ℕ). ‵ (MutSlice (named 0) κ T.the-row .own (x (zs .0)) (sliceVal (b, o) m ∷ []))) (long i) refl $")
     more.line("rewrite ! 0 (λ (z : List Reach). ‵ (MutSlice (named 0) κ T.the-row .own (x z) (s ∷ []))) (is-set ∙ next r is-read) refl $")
-    more.line(f"assigns-last ! (bin ! {more.whole('_5')} (lit ! tt) (record {{ fits = next-fits }})) (from ! (stop !)) (store ! {more.at('_5')} refl {fits('next-fits')}) $")
-    more.line(" ".join(f"forget ! {more.at(f'_{k}')} refl $" for k in (7, 8, 9, 10, 11)))
-    more.line(more.keep(*own_locals(count), *kept) + "again ! Nearer At i (i .0 + 1, add-one-le less) (add-one-dec end (i .0) less)")
+    more.line(f"assigns-last ! (bin ! {more.whole('_4')} (lit ! tt) (record {{ fits = next-fits }})) (from ! (stop !)) (store ! {more.at('_4')} refl {fits('next-fits')}) $")
+    more.line(" ".join(f"forget ! {more.at(f'_{k}')} refl $" for k in (5, 6, 7, 8, 9)))
+    more.line(more.keep(*own_locals(count), *kept) + "again ! Nearer At i (i .0 + 1, add-one-le less) (add-one-dec count (i .0) less)")
 
     # the turn that leaves the loop, and the rest of the body
     ends = Trace(own_locals(count) + kept, 10)
-    ends.assign("_7", test(ends), "(tt, tt)")
-    ends.line(f"rewrite ! {ends.at('_7')} (λ (t : Bool). ‵ (fat fullShare tyBool l7 0 (vbool t))) e refl $ leaves-loop ! {ends.whole('_7')} $ exec ! C Λ En mir′.t-5 (atRet En Post) $")
+    ends.assign("_5", test(ends), "(tt, tt)")
+    ends.line(f"rewrite ! {ends.at('_5')} (λ (t : Bool). ‵ (fat fullShare tyBool l5 0 (vbool t))) e refl $ leaves-loop ! {ends.whole('_5')} $ exec ! C Λ En mir′.t-3 (atRet En Post) $")
     ends.assign("_0", "(of-opd ! (unit-lit !))", "(tt, tt)")
-    ends.leave(["vunit", "s", "sv", "vint w64 count", "vint w64 end", "vint w64 (i .0)", None, "vbool false", None, None, None, None])
-    ends.line(ends.keep(*kept) + "by ! (exits (i .0) (le-antisymm (i .1) (nltb→le (i .0) end (subst (λ (t : Bool). Holds (not t)) (sym e) tt))) (long i))")
+    ends.leave(["vunit", "s", "sv", "vint w64 count", "vint w64 (i .0)", "vbool false", None, None, None, None])
+    ends.line(ends.keep(*kept) + "by ! (exits (i .0) (le-antisymm (i .1) (nltb→le (i .0) count (subst (λ (t : Bool). Holds (not t)) (sym e) tt))) (long i))")
 
     # up to the loop
     w = Trace(own_locals(count) + ["tokens", "owns"])
     w.line(allocate(count))
     w.line(f"pass1 ! (init ! {w.at('_1')} refl {slice_fits('room .0')}) $ pass1 ! (init ! {w.at('_2')} refl {slice_fits('sheet-room .0')}) $ pass1 ! (init ! {w.at('_3')} refl {fits('count-fits')}) $ pass0 ! $")
-    w.assign("_6", f"(of-opd ! {w.field('_1', 1)})", fits("room .0"))
-    w.note("`least`")
-    w.line("nothing ! $ use1 W (raw (Least 𝓤 H A at-mem run .pre to-least)) goes-least $")
-    w.replace(0, "pre")
-    w.line(f"calls-at ! fm (Least 𝓤 H A at-mem run) known-least to-least {w.locals('_3', '_6')} (λ u.")
-    w.line("use1 W (later (some (λ (n : ℕ). (‵ ftrue ⊛ ‵ (usize .own n (u ∷ []))) ⊛ raw (ensured 𝓤 H A least.ended (least.clauses 𝓤 H A at-mem run) tt least-args tt n)))) (id⊢ 𝓤 _) $ await ! tt $ pick ! (λ end.")
-    w.replace(1, "result", "says")
-    text = "split ! $ " + w.move("says") + "use1 W (raw (fact 𝓤 (end ≡ min count (length ys)))) (said-least end) $ heard ! (end ≡ min count (length ys)) (λ least. "
-    w.replace(1)
-    w.line(text + w.split("result", "true", "number") + w.drop("true"))
-    w.line(w.move("number") + f"peeks ! usize (Is usize) (shows 𝓤 H A usize) end (u ∷ []) (λ is. land ! (from ! (stop !)) (init ! {w.at('_4')} refl (uint-lawful 𝓤 H A W w64 .typed end _ is .0)) $ drop ! $")
-    w.replace(1)
-    w.line(f"rewrite ! {w.at('_4')} (λ (v : Val). ‵ (fat fullShare word l4 0 v)) (ap only (is .0)) refl $")
-    w.assign("_5", "(of-opd ! (lit ! tt))", fits("lit< tt"))
-    w.line(w.split("owns", "table", "others", rule="fsplit") + w.split("others", "sheet", "number", rule="fsplit") + w.split("tokens", "alive", "others") + w.split("others", "sheet-alive", "true") + w.keep(*own_locals(count), *kept))
+    w.assign("_4", "(of-opd ! (lit ! tt))", fits("lit< tt"))
+    w.line(w.split("owns", "table", "others", rule="fsplit") + w.split("others", "sheet", "number", rule="fsplit") + w.split("tokens", "alive", "others") + w.split("others", "sheet-alive", "true"))
+    w.line(w.move("table") + "rewrite ! 0 (λ (z : List Reach). ‵ (MutSlice (named 0) κ T.the-row .own (x z) (s ∷ []))) (sym (table-none (y .now) ys)) refl $")
+    w.line(w.keep(*own_locals(count), *kept))
     ls = " ".join(f"l{i}" for i in range(count))
-    w.line(f"forget ! {w.at('_6')} refl $ first ! $ blocks ! $ loops ! 𝓣 (Nearer end least (is .1)) (Nearer-wf end least (is .1)) (At end least (is .1) 𝓣 fm known-read known-put {ls}) (turns end least (is .1) 𝓣 fm known-read known-put {ls}) (0, zero-le)")
-    values = {1: "s", 2: "sv", 3: "(vint w64 count)", 4: "(vint w64 end)", 5: "(vint w64 (i .0))"}
+    w.line(f"first ! $ blocks ! $ loops ! 𝓣 Nearer Nearer-wf (At 𝓣 fm known-read known-put {ls}) (turns 𝓣 fm known-read known-put {ls}) (0, zero-le)")
+    values = {1: "s", 2: "sv", 3: "(vint w64 count)", 4: "(vint w64 (i .0))"}
     at = " ∷ ".join((f"‵ (fat fullShare {types[k]} l{k} 0 {values[k]})" if k in values else f"‵ (froom {types[k]} l{k} 0)") + f" ∷ ‵ (fdies {types[k]} l{k})" for k in reversed(range(count)))
     body = f"""abbrev stayed : Stays (the-fn.ended .signature .params) (the-fn.ended .kept)
 stayed = (stay-slice (0 ∷ []) tt (plain (λ _. T.the-row)), (stay-none-slice (1 ∷ []) tt (plain (λ _. u8)) yes, (stay-none (λ _. usize) yes, tt)))
@@ -658,9 +647,6 @@ by-bool true y n = y refl
 by-bool false y n = n refl
 
 module _ {MODEL} {RUN} where
-  abbrev Least : Contract 𝓤
-  Least = tripleOf 𝓤 H A least.signature (least.spec 𝓤 H A at-mem run)
-
   abbrev Read : Contract 𝓤
   Read = tripleOf 𝓤 H A read.signature (read.spec 𝓤 H A at-mem run)
 
@@ -700,21 +686,6 @@ module _ {MODEL} (W : Given 𝓤 H A) {RUN}
   abbrev Kept : ℕ → List (Item 𝓤)
   Kept i = ‵ (MutSlice (named 0) κ T.the-row .own (x (F i)) (s ∷ [])) ∷ ‵ (flft κ q) ∷ ‵ (flft κ′ q′) ∷ ‵ Sheet ∷ []
 
-  -- `least`: what its triple binds outside, what it takes and what it says
-  abbrev least-args : ℕ × (ℕ × Unit {{0}})
-  least-args = (count, (length ys, tt))
-
-  abbrev to-least : Least 𝓤 H A at-mem run .Ghost
-  to-least = ((tt, tt, tt, least-args, (vint w64 count ∷ [], (vint w64 (length ys) ∷ [], tt))), tt)
-
-  goes-least : ent 𝓤 (sem 𝓤 H A ftrue) (Least 𝓤 H A at-mem run .pre to-least)
-  goes-least =
-      qed W (‵ ftrue ∷ []) ∵ owned ! usize (Is usize) (uint-makes 𝓤 H A W w64) (length ys) _ (refl, room .0) $ fjoin ! $
-      owned ! usize (Is usize) (uint-makes 𝓤 H A W w64) count _ (refl, count-fits) $ fjoin ! $ nothing ! $ join ! $ frame ! $ done !
-
-  said-least : (n : ℕ) → ent 𝓤 (ensured 𝓤 H A least.ended (least.clauses 𝓤 H A at-mem run) tt least-args tt n) (fact 𝓤 (n ≡ min count (length ys)))
-  said-least n = exE 𝓤 _ (λ ws. snd∗ 𝓤 (sem 𝓤 H A (lasts least.ended tt least-args ws)) (fact 𝓤 (n ≡ min count (length ys))))
-
   -- `reach`: the sheet is copied, and a copy kept
   abbrev to-read : ℕ → Read 𝓤 H A at-mem run .Ghost
   to-read i = (((κ′, tt), (q′, tt), tt, (y, (i, tt)), (sv ∷ [], (vint w64 i ∷ [], tt))), tt)
@@ -745,76 +716,72 @@ module _ {MODEL} (W : Given 𝓤 H A) {RUN}
       nothing ! $ move ! (3 ∷ 0 ∷ []) $ fjoin ! $ owned ! usize (Is usize) (uint-makes 𝓤 H A W w64) i _ (refl, fits) $ fjoin ! $ move ! (2 ∷ 0 ∷ []) $ fjoin ! $
       nothing ! $ move ! (2 ∷ 0 ∷ []) $ join ! $ move ! (0 ∷ 1 ∷ []) $ join ! $ frame ! $ done !
 
-  module _ (end : ℕ) (least : end ≡ min count (length ys)) (end-fits : end < 2 ^ 64) where
-    abbrev Upto : Type 0
-    Upto = (i : ℕ) × (i ≤ end)
+  abbrev Upto : Type 0
+  Upto = (i : ℕ) × (i ≤ count)
 
-    abbrev Nearer : Upto → Upto → Type 0
-    Nearer j i = end - j .0 < end - i .0
+  abbrev Nearer : Upto → Upto → Type 0
+  Nearer j i = count - j .0 < count - i .0
 
-    Nearer-wf : WellFounded Nearer
-    Nearer-wf = InvImage·wf (λ (i : Upto). end - i .0) (Nat·lt-wfRel .wf)
+  Nearer-wf : WellFounded Nearer
+  Nearer-wf = InvImage·wf (λ (i : Upto). count - i .0) (Nat·lt-wfRel .wf)
 
-    in-list : end ≤ length ys
-    in-list = subst (λ (m : ℕ). m ≤ length ys) (sym least) (min-le-right count (length ys))
+  long : (i : Upto) → length (F (i .0)) ≡ length ys
+  long i = table-length (y .now) ys (i .0)
 
-    long : (i : Upto) → length (F (i .0)) ≡ length ys
-    long i = table-length (y .now) ys (i .0) (le-trans (i .1) in-list)
+  exits : (i : ℕ) → i ≡ count → length (F i) ≡ length ys → ent 𝓤 (⋆ 𝓤 H A (Kept i)) (Post vunit)
+  exits i e l =
+      qed W (Kept i) ∵
+      suffices ! _ (ends-at 𝓤 H A the-fn.ended stayed (the-fn.clauses 𝓤 H A at-mem run) W (((κ, (κ′, tt)), (q, (q′, tt)), tt, a, at), tt) vunit tt (F i, (tt, (tt, tt))) (l, (tt, (tt, tt)))) $
+      says ! (table-filled (y .now) ys count i e) $ nothing ! $ move ! (3 ∷ 0 ∷ []) $ join ! $ move ! (2 ∷ 0 ∷ []) $ join ! $ frame ! $
+      nothing ! $ owned ! usize (Is usize) (uint-makes 𝓤 H A W w64) count _ (refl, count-fits) $ fjoin ! $ move ! (2 ∷ 0 ∷ []) $ fjoin ! $ move ! (1 ∷ 0 ∷ []) $ fjoin ! $ frame ! $
+      feqI ! (List Val) (vunit ∷ []) (vunit ∷ []) refl $ done !
 
-    exits : (i : ℕ) → i ≡ end → length (F i) ≡ length ys → ent 𝓤 (⋆ 𝓤 H A (Kept i)) (Post vunit)
-    exits i e l =
-        qed W (Kept i) ∵
-        suffices ! _ (ends-at 𝓤 H A the-fn.ended stayed (the-fn.clauses 𝓤 H A at-mem run) W (((κ, (κ′, tt)), (q, (q′, tt)), tt, a, at), tt) vunit tt (F i, (tt, (tt, tt))) (l, (tt, (tt, tt)))) $
-        says ! (table-filled (y .now) ys count i (e ∙ least)) $ nothing ! $ move ! (3 ∷ 0 ∷ []) $ join ! $ move ! (2 ∷ 0 ∷ []) $ join ! $ frame ! $
-        nothing ! $ owned ! usize (Is usize) (uint-makes 𝓤 H A W w64) count _ (refl, count-fits) $ fjoin ! $ move ! (2 ∷ 0 ∷ []) $ fjoin ! $ move ! (1 ∷ 0 ∷ []) $ fjoin ! $ frame ! $
-        feqI ! (List Val) (vunit ∷ []) (vunit ∷ []) refl $ done !
+  module _ (𝓣 : Tables 𝓤 H) (fm : FmC 𝓤 H (W .laws) (𝓣 .C)) (known-read : Triple 𝓤 (𝓣 .C #read) (Read 𝓤 H A at-mem run)) (known-put : Triple 𝓤 (𝓣 .C #put) (Put 𝓤 H A at-mem run)) ({ls} : ℕ) where
+    abbrev C : Calls 𝓤 H
+    C = 𝓣 .C
 
-    module _ (𝓣 : Tables 𝓤 H) (fm : FmC 𝓤 H (W .laws) (𝓣 .C)) (known-read : Triple 𝓤 (𝓣 .C #read) (Read 𝓤 H A at-mem run)) (known-put : Triple 𝓤 (𝓣 .C #put) (Put 𝓤 H A at-mem run)) ({ls} : ℕ) where
-      abbrev C : Calls 𝓤 H
-      C = 𝓣 .C
+    abbrev Λ : Loops 𝓤 H
+    Λ = 𝓣 .Λ
 
-      abbrev Λ : Loops 𝓤 H
-      Λ = 𝓣 .Λ
+    abbrev En : Env 𝓤 H
+    En = {env(types)}
 
-      abbrev En : Env 𝓤 H
-      En = {env(types)}
+    -- the loop's invariant
+    abbrev At : Upto → List (Item 𝓤)
+    At i = {at} ∷ Kept (i .0)
 
-      -- the loop's invariant
-      abbrev At : Upto → List (Item 𝓤)
-      At i = {at} ∷ Kept (i .0)
+    -- a turn's postcondition: it ends nearer to the end, or the loop is left and the rest of the body runs
+    abbrev Turned : Upto → Out → SProp 𝓤
+    Turned i = afterTurn 𝓤 H (Below 𝓤 H A Nearer At i) (afterBlock 𝓤 H (afterSeq 𝓤 H (Wp 𝓤 H C Λ En mir′.t-3 (atReturn 𝓤 H En Post)) (atReturn 𝓤 H En Post)))
 
-      -- a turn's postcondition: it ends nearer to the end, or the loop is left and the rest of the body runs
-      abbrev Turned : Upto → Out → SProp 𝓤
-      Turned i = afterTurn 𝓤 H (Below 𝓤 H A Nearer At i) (afterBlock 𝓤 H (afterSeq 𝓤 H (Wp 𝓤 H C Λ En mir′.t-5 (atReturn 𝓤 H En Post)) (atReturn 𝓤 H En Post)))
-
-      -- a turn that fills one entry
-      more : (i : Upto) → ltb (i .0) end ≡ true → Sq W (At i) (runs C Λ En mir′.turn-1 (anyQ (Turned i)))
-      unfolding afterTurn
-      more i e =
+    -- a turn that fills one entry
+    more : (i : Upto) → ltb (i .0) count ≡ true → Sq W (At i) (runs C Λ En mir′.turn-1 (anyQ (Turned i)))
+    unfolding afterTurn
+    more i e =
 {closed(more.text())}
-        where
-          less : i .0 < end
-          less = ltb→lt (i .0) end (subst Holds (sym e) tt)
+      where
+        less : i .0 < count
+        less = ltb→lt (i .0) count (subst Holds (sym e) tt)
 
-          i-fits : i .0 < 2 ^ 64
-          i-fits = lt-of-le-of-lt (i .1) end-fits
+        i-fits : i .0 < 2 ^ 64
+        i-fits = lt-of-le-of-lt (i .1) count-fits
 
-          next-fits : i .0 + 1 < 2 ^ 64
-          next-fits = lt-of-le-of-lt (add-one-le less) end-fits
+        next-fits : i .0 + 1 < 2 ^ 64
+        next-fits = lt-of-le-of-lt (add-one-le less) count-fits
 
-          next : (r : Reach) → reachSays r ≡ reachOn (y .now) (i .0) → set (F (i .0)) (i .0) r ≡ F (i .0 + 1)
-          next r is-read = table-next (y .now) ys (i .0) r (lt-of-lt-of-le less in-list) is-read
+        next : (r : Reach) → reachSays r ≡ reachOn (y .now) (i .0) → set (F (i .0)) (i .0) r ≡ F (i .0 + 1)
+        next r is-read = table-next (y .now) ys (i .0) r is-read
 
-      -- the turn that leaves the loop, and the rest of the body
-      ends : (i : Upto) → ltb (i .0) end ≡ false → Sq W (At i) (runs C Λ En mir′.turn-1 (anyQ (Turned i)))
-      unfolding afterTurn
-      ends i e =
+    -- the turn that leaves the loop, and the rest of the body
+    ends : (i : Upto) → ltb (i .0) count ≡ false → Sq W (At i) (runs C Λ En mir′.turn-1 (anyQ (Turned i)))
+    unfolding afterTurn
+    ends i e =
 {closed(ends.text())}
 
-      turns : (i : Upto) → Sq W (At i) (runs C Λ En mir′.turn-1 (anyQ (Turned i)))
-      turns i = by-bool (ltb (i .0) end) (more i) (ends i)
+    turns : (i : Upto) → Sq W (At i) (runs C Λ En mir′.turn-1 (anyQ (Turned i)))
+    turns i = by-bool (ltb (i .0) count) (more i) (ends i)
 
-  module _ (𝓣 : Tables 𝓤 H) (known-least : Triple 𝓤 (𝓣 .C #least) (Least 𝓤 H A at-mem run)) (known-read : Triple 𝓤 (𝓣 .C #read) (Read 𝓤 H A at-mem run)) (known-put : Triple 𝓤 (𝓣 .C #put) (Put 𝓤 H A at-mem run)) where
+  module _ (𝓣 : Tables 𝓤 H) (known-read : Triple 𝓤 (𝓣 .C #read) (Read 𝓤 H A at-mem run)) (known-put : Triple 𝓤 (𝓣 .C #put) (Put 𝓤 H A at-mem run)) where
     abbrev fm : FmC 𝓤 H (W .laws) (𝓣 .C)
     fm = fmOf 𝓤 H (W .laws) 𝓣
 
@@ -829,15 +796,14 @@ module _ {MODEL} (W : Given 𝓤 H A) {RUN}
         ["slice-vals", "slice-vals", "uint-vals w64"],
         ["mut-slice-tells (named 0) (κs .0) T.the-row", "shr-slice-tells (named 1) (κs .1 .0) u8", "uint-tells w64"],
         "(κs .0) (κs .1 .0) (qs .0) (qs .1 .0) (a .0 .ptr .0) (a .0 .ptr .1) (a .0 .name) (a .0 .now) (a .1 .0) (a .1 .1 .0) (are .0 .0 .1) (are .1 .0 .0 .1) (are .1 .1 .0 .1)",
-        [("least", "Least", "calls-lists·least"), ("read", "Read", "calls-sheet·fields·reach"), ("put", "Put", "calls-records·put")],
+        [("read", "Read", "calls-sheet·fields·reach"), ("put", "Put", "calls-records·put")],
     )
     write(
         "records",
         "fill",
         "-- `fill` meets its contract. A turn of the loop reads a record off the sheet, lends the list on to `put` and has it back; the invariant is\n-- that i entries are filled.",
-        "use Rattle.model.specs.Sheet.{reachOn}\nuse Rattle.terms.specs.Says.{reachSays}\n" + IMPORTS_REACH + callee_imports("Rattle.lists.proofs.least", "least")
-        + callee_imports("Rattle.sheet.proofs.fields.reach", "read") + callee_imports("Rattle.records.proofs.put", "put")
-        + "use Rattle.records.proofs.Again.{LentAgain, lends-again, comes-back}\nuse Rattle.records.proofs.Filled.{table, table-length, table-next, table-filled}\n"
+        "use Rattle.model.specs.Sheet.{reachOn}\nuse Rattle.terms.specs.Says.{reachSays}\n" + IMPORTS_REACH + callee_imports("Rattle.sheet.proofs.fields.reach", "read") + callee_imports("Rattle.records.proofs.put", "put")
+        + "use Rattle.records.proofs.Again.{LentAgain, lends-again, comes-back}\nuse Rattle.records.proofs.Filled.{table, table-none, table-length, table-next, table-filled}\n"
         + own_imports("records", "fill"),
         body,
     )

@@ -4,7 +4,7 @@ ghost use mathlib.Core.Bool.{cond, _||_};
 ghost use mathlib.Core.List.{[], _∷_, _++_};
 ghost use Prim.Native.Nat.{_<_, _≤_};
 ghost use lib.Dec.{ltb};
-ghost use Rattle.lists.specs.Lists.{lowest, anyShorter};
+ghost use Rattle.lists.specs.Lists.{lowest};
 ghost use Rattle.model.specs.Ranges.{mostSegments};
 ghost use Rattle.model.specs.State.{setLists, columnLists, figuresAt};
 ghost use Rattle.model.specs.Calls.{riverFault, figureFault, startFault, oldFault};
@@ -23,14 +23,7 @@ use terms::KD;
 use terms::Numbers;
 use terms::START;
 use terms::Set;
-use terms::set_lengths;
-
-// A list of the set is shorter than n.
-pub fn set_short(n: usize, set: Set) -> bool
-    ensures { λ r. ⌜ r ≡ anyShorter n (setLists (setOf (set .entry))) ⌝ }
-{
-    any_short(n, &set_lengths(set))
-}
+use terms::set_short;
 
 // Test 13 of the segment count and of the lists that every call is lent.
 pub fn river_fault(

@@ -16,7 +16,6 @@ ghost use Rattle.terms.specs.Lent.{setOf, columnsOf, state, working};
 ghost use Rattle.otis.specs.Says.{answerSays, reportSays};
 ghost use Rattle.otis.specs.Outcomes.{stateAfter, StartOutcome, StepOutcome};
 use calltests::segments::set_at_fault;
-use calltests::segments::set_short;
 use calltests::start_test;
 use calltests::state_test;
 use limits::Range;
@@ -28,6 +27,7 @@ use terms::KD;
 use terms::Place;
 use terms::START;
 use terms::Set;
+use terms::set_short;
 
 pub mod entries;
 

@@ -1,13 +1,14 @@
 -- A loop that fills the list of reach records leaves what `filled` says, and this is what the documents say of a loading and of an opening.
-use mathlib.Core.Path.{_≡_, refl, ap, _∙_}
-use mathlib.Core.Bool.{_||_}
+use mathlib.Core.Path.{_≡_, refl, sym, ap, _∙_}
+use mathlib.Core.Bool.{Bool, true, false, _||_}
 use mathlib.Core.List.{List, [], _∷_, _++_, map}
 use Prim.Native.Nat.{ℕ, _+_, _<_, _≤_, min}
-use native.Mathlib.Nat.{zero-min, min-eq-left}
+use native.Mathlib.Nat.{zero-min, min-eq-left, min-le-right}
 use native.Mathlib.Omega.{arith}
-use borrow.Author.Tests.{ltb-false}
+use borrow.Author.Tests.{ltb-true, ltb-false}
 use lib.Dec.{ltb}
 use lib.ListN.{length, set, length-map}
+use lib.Seq.{set-out}
 use Rattle.lists.specs.Lists.{tab, over, anyShorter}
 use Rattle.lists.proofs.Shorter.{neither}
 use Rattle.lists.proofs.Tab.{length-tab, map-tab}
@@ -46,24 +47,40 @@ asRecord x = record {
 }
 
 module _ (sheet : List ℕ) (before : List Record.Reach) where
-  -- the list once i entries are filled
+  -- the list once i entries are filled, as far as it reaches
   abbrev pub table : ℕ → List Record.Reach
-  table i = over (tab 0 i (λ j. asRecord (reachOn sheet j))) before
+  table i = over (tab 0 (min i (length before)) (λ j. asRecord (reachOn sheet j))) before
 
-  pub table-length : (i : ℕ) → i ≤ length before → length (table i) ≡ length before
-  table-length i h = length-over (tab 0 i (λ j. asRecord (reachOn sheet j))) before (rw (length-tab (λ j. asRecord (reachOn sheet j)) 0 i) h)
+  -- at first as it was
+  pub table-none : table 0 ≡ before
+  table-none = rw (zero-min (length before))
 
-  -- one entry more
-  pub table-next : (i : ℕ) (r : Record.Reach) → i < length before → reachSays r ≡ reachOn sheet i → set (table i) i r ≡ table (i + 1)
-  table-next i r h e =
-      filling-turn {f = λ j. asRecord (reachOn sheet j)} {before = before} {list = table i} (record { is = refl; long = table-length i (omega arith) }) h (ap asRecord e) .is
+  pub table-length : (i : ℕ) → length (table i) ≡ length before
+  table-length i =
+      length-over (tab 0 (min i (length before)) (λ j. asRecord (reachOn sheet j))) before
+      (rw (length-tab (λ j. asRecord (reachOn sheet j)) 0 (min i (length before))) (min-le-right i (length before)))
+
+  -- one entry more; past the end of the list nothing is put in
+  pub table-next : (i : ℕ) (r : Record.Reach) → reachSays r ≡ reachOn sheet i → set (table i) i r ≡ table (i + 1)
+  table-next i r e = go (ltb i (length before)) refl
+    where
+      go : (b : Bool) → ltb i (length before) ≡ b → set (table i) i r ≡ table (i + 1)
+      go true lower =
+          let h : i < length before = ltb-true i (length before) lower in
+          let here : min i (length before) ≡ i = omega arith in
+          let next : min (i + 1) (length before) ≡ i + 1 = omega arith in
+          rw (here, next) (filling-turn {f = λ j. asRecord (reachOn sheet j)} {before = before} {list = over (tab 0 i (λ j. asRecord (reachOn sheet j))) before} (record { is = refl; long = length-over (tab 0 i (λ j. asRecord (reachOn sheet j))) before (rw (length-tab (λ j. asRecord (reachOn sheet j)) 0 i) (omega arith)) }) h (ap asRecord e) .is)
+      go false higher =
+          let h : length before ≤ i = ltb-false i (length before) higher in
+          let same : min (i + 1) (length before) ≡ min i (length before) = omega arith in
+          set-out (table i) i r (rw (table-length i) h) ∙ ap (λ n. over (tab 0 n (λ j. asRecord (reachOn sheet j))) before) (sym same)
 
   -- and all of them
-  pub table-filled : (count end : ℕ) → end ≡ min count (length before) → map reachSays (table end) ≡ filled sheet count (map reachSays before)
+  pub table-filled : (count i : ℕ) → i ≡ count → map reachSays (table i) ≡ filled sheet count (map reachSays before)
   unfolding filled
-  table-filled count end e =
-      map-over reachSays (tab 0 end (λ j. asRecord (reachOn sheet j))) before
-      ∙ rw (map-tab reachSays (λ j. asRecord (reachOn sheet j)) 0 end, length-map before reachSays, e)
+  table-filled count i e =
+      map-over reachSays (tab 0 (min i (length before)) (λ j. asRecord (reachOn sheet j))) before
+      ∙ rw (map-tab reachSays (λ j. asRecord (reachOn sheet j)) 0 (min i (length before)), length-map before reachSays, e)
 
 module _ (sheet : List ℕ) (row : ℕ) (before : List Reach) (columns : Columns) where
   -- where test 13 passes, the list has an entry for each reach

@@ -8,7 +8,6 @@ ghost use Rattle.lists.specs.Lent.{entry, exit};
 ghost use Rattle.assembly.specs.Says.{loadSays};
 ghost use Rattle.records.specs.Records.{noReach, filled, fillCount};
 use assembly::Load;
-use lists::least;
 use sheet::fields::reach;
 use sheet::fields::reach_count;
 use terms::Reach;
@@ -57,9 +56,8 @@ pub fn take(reaches: &[Reach], i: usize) -> Reach
 pub fn fill(reaches: &mut [Reach], sheet: &[u8], count: usize)
     ensures { λ _. ⌜ map reachSays (exit reaches) ≡ filled (entry sheet) count (map reachSays (entry reaches)) ⌝ }
 {
-    let end = least(count, reaches.len());
     let mut i: usize = 0;
-    while i < end {
+    while i < count {
         put(reaches, i, reach(sheet, i));
         i += 1;
     }

@@ -1,11 +1,11 @@
 -- Lists that pass test 13 have an entry for each segment, list by list.
-use mathlib.Core.Path.{_≡_}
-use mathlib.Core.Bool.{false}
-use mathlib.Core.List.{List, [], _∷_, _++_}
+use mathlib.Core.Path.{_≡_, sym, _∙_}
+use mathlib.Core.Bool.{true, false}
+use mathlib.Core.List.{List, [], _∷_, _++_, map}
 use Prim.Native.Nat.{ℕ, _≤_}
 use lib.ListN.{length}
-use Rattle.lists.specs.Lists.{anyShorter}
-use Rattle.lists.proofs.Shorter.{AllLong, all-long}
+use Rattle.lists.specs.Lists.{anyShorter, anyUnder}
+use Rattle.lists.proofs.Shorter.{AllLong, all-long, shorter-both, under-lengths}
 use Rattle.model.specs.State.{NumberSet, setLists, Columns, columnLists}
 use Rattle.terms.specs.Lent.{LongSet, Long, LongFigures}
 
@@ -50,3 +50,18 @@ pub figures-behind : (n : ℕ) (x : Columns) (channel storage sediment : List �
 figures-behind n x channel storage sediment long =
     let figures = behind n (columnLists x) (channel ∷ storage ∷ sediment ∷ []) long in
     record { channel = figures .0; storage = figures .1 .0; sediment = figures .1 .1 .0 }
+
+-- ---- a set's lengths, five at a time
+
+module _ (n : ℕ) (x : NumberSet) where
+  abbrev front : List (List ℕ)
+  front = x .e ∷ x .g ∷ x .l ∷ x .a ∷ x .b ∷ []
+
+  abbrev back : List (List ℕ)
+  back = x .k ∷ x .ks ∷ x .h ∷ x .m ∷ x .s ∷ []
+
+  pub front-short : anyUnder n (map length front) ≡ true → anyShorter n (setLists x) ≡ true
+  front-short e = shorter-both n front back ∙ rw (sym (under-lengths n front) ∙ e)
+
+  pub back-decides : anyUnder n (map length front) ≡ false → anyUnder n (map length back) ≡ anyShorter n (setLists x)
+  back-decides e = under-lengths n back ∙ sym (shorter-both n front back ∙ rw (sym (under-lengths n front) ∙ e))

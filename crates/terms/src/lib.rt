@@ -1,14 +1,14 @@
 // The types that the crates share. specs/Says gives what document 01 calls each of their values.
 ghost use mathlib.Core.Path.{_≡_};
-ghost use mathlib.Core.List.{map};
 ghost use Prim.Native.Nat.{_<_, _≤_};
-ghost use lib.ListN.{length};
 ghost use Rattle.model.specs.Ranges.{mostSegments};
 ghost use Rattle.model.specs.Equations.{sumT, sumV};
 ghost use Rattle.model.specs.State.{numbersAt, setLists};
 ghost use Rattle.model.specs.Load.{sumFault};
+ghost use Rattle.lists.specs.Lists.{anyShorter};
 ghost use Rattle.terms.specs.Says.{numbersSay};
 ghost use Rattle.terms.specs.Lent.{setOf, LongSet};
+use lists::any_short;
 use rounding::WHOLE;
 
 // Where a refusal is at fault; reaches, segments and rows count from 1.
@@ -94,22 +94,32 @@ pub const KD: usize = 2;
 
 pub const START: usize = 3;
 
-// The lengths of a set's lists, for test 13.
-pub fn set_lengths(set: Set) -> [usize; 10]
-    ensures { λ r. ⌜ r ≡ map length (setLists (setOf (set .entry))) ⌝ }
+// A list of the set is shorter than n: five lengths at a time, for which the compiler needs no loop.
+pub fn set_short(n: usize, set: Set) -> bool
+    ensures { λ r. ⌜ r ≡ anyShorter n (setLists (setOf (set .entry))) ⌝ }
 {
-    [
-        set[E].len(),
-        set[G].len(),
-        set[L].len(),
-        set[A].len(),
-        set[B].len(),
-        set[K].len(),
-        set[KS].len(),
-        set[H].len(),
-        set[M].len(),
-        set[S].len(),
-    ]
+    if any_short(
+        n,
+        &[
+            set[E].len(),
+            set[G].len(),
+            set[L].len(),
+            set[A].len(),
+            set[B].len(),
+        ],
+    ) {
+        return true;
+    }
+    any_short(
+        n,
+        &[
+            set[K].len(),
+            set[KS].len(),
+            set[H].len(),
+            set[M].len(),
+            set[S].len(),
+        ],
+    )
 }
 
 impl Numbers {

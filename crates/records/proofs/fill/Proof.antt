@@ -5,8 +5,8 @@ use mathlib.Core.Path.{_≡_, refl, sym, ap, subst, _∙_}
 use mathlib.Core.Bool.{Bool, true, false, not}
 use mathlib.Core.List.{List, [], _∷_}
 use mathlib.Core.WellFounded.{WellFounded, InvImage·wf}
-use Prim.Native.Nat.{ℕ, _+_, _-_, _<_, _≤_, _^_, min, zero-le}
-use native.Mathlib.Nat.{le-antisymm, lt-of-le-of-lt, lt-of-lt-of-le, le-trans, min-le-right}
+use Prim.Native.Nat.{ℕ, _+_, _-_, _<_, _≤_, _^_, zero-le}
+use native.Mathlib.Nat.{le-antisymm, lt-of-le-of-lt}
 use native.Mathlib.Numerals.{add-one-le, add-one-dec}
 use lib.ListN.{length, set}
 use lib.WfN.{Nat·lt-wfRel}
@@ -31,7 +31,7 @@ use sound.WpLaws.{FmC, fmOf, WpFn-mono}
 use denote.RattleType.{owns}
 use denote.Memory.{mem, pointee}
 use denote.Laws.{Is, shows}
-use denote.Plain.{Nothing, uint-vals, uint-tells, uint-makes, uint-lawful}
+use denote.Plain.{Nothing, uint-vals, uint-tells, uint-makes}
 use denote.Builtin.{u8, usize}
 use denote.Ref.{RefT, now}
 use denote.Slice.{sliceTy, sliceVal, MutSlice, ShrSlice, Room, slice-vals, mut-slice-tells, shr-slice-tells, shr-slice-copy}
@@ -51,10 +51,6 @@ use Rattle.terms.specs.Says.{reachSays}
 use Rattle.terms.specs.declared.Reach.{Reach}
 use Rattle.terms.proofs.Reach as T
 use Rattle.terms.proofs.Reach.Laws as T′
-use Rattle.lists.proofs.least as least
-use Rattle.lists.proofs.least.Symbol as least-def
-use Rattle.lists.proofs.least.Symbol.{name as #least}
-use Rattle.lists.proofs.least.Met as least-thm
 use Rattle.sheet.proofs.fields.reach as read
 use Rattle.sheet.proofs.fields.reach.Symbol as read-def
 use Rattle.sheet.proofs.fields.reach.Symbol.{name as #read}
@@ -64,7 +60,7 @@ use Rattle.records.proofs.put.Symbol as put-def
 use Rattle.records.proofs.put.Symbol.{name as #put}
 use Rattle.records.proofs.put.Met as put-thm
 use Rattle.records.proofs.Again.{LentAgain, lends-again, comes-back}
-use Rattle.records.proofs.Filled.{table, table-length, table-next, table-filled}
+use Rattle.records.proofs.Filled.{table, table-none, table-length, table-next, table-filled}
 use Rattle.records.proofs.fill.Key.{name as #the-fn}
 use Rattle.records.proofs.fill as the-fn
 use Rattle.records.proofs.fill.Statement as stated
@@ -98,9 +94,6 @@ by-bool true y n = y refl
 by-bool false y n = n refl
 
 module _ {M : Type 1} (𝓤 : URA M) (H : Heap 𝓤) (A : Atoms 𝓤) (at-mem : Memory → SProp 𝓤) (run : Routine → Fun 𝓤) where
-  abbrev Least : Contract 𝓤
-  Least = tripleOf 𝓤 H A least.signature (least.spec 𝓤 H A at-mem run)
-
   abbrev Read : Contract 𝓤
   Read = tripleOf 𝓤 H A read.signature (read.spec 𝓤 H A at-mem run)
 
@@ -140,21 +133,6 @@ module _ {M : Type 1} (𝓤 : URA M) (H : Heap 𝓤) (A : Atoms 𝓤) (W : Given
   abbrev Kept : ℕ → List (Item 𝓤)
   Kept i = ‵ (MutSlice (named 0) κ T.the-row .own (x (F i)) (s ∷ [])) ∷ ‵ (flft κ q) ∷ ‵ (flft κ′ q′) ∷ ‵ Sheet ∷ []
 
-  -- `least`: what its triple binds outside, what it takes and what it says
-  abbrev least-args : ℕ × (ℕ × Unit {0})
-  least-args = (count, (length ys, tt))
-
-  abbrev to-least : Least 𝓤 H A at-mem run .Ghost
-  to-least = ((tt, tt, tt, least-args, (vint w64 count ∷ [], (vint w64 (length ys) ∷ [], tt))), tt)
-
-  goes-least : ent 𝓤 (sem 𝓤 H A ftrue) (Least 𝓤 H A at-mem run .pre to-least)
-  goes-least =
-      qed W (‵ ftrue ∷ []) ∵ owned ! usize (Is usize) (uint-makes 𝓤 H A W w64) (length ys) _ (refl, room .0) $ fjoin ! $
-      owned ! usize (Is usize) (uint-makes 𝓤 H A W w64) count _ (refl, count-fits) $ fjoin ! $ nothing ! $ join ! $ frame ! $ done !
-
-  said-least : (n : ℕ) → ent 𝓤 (ensured 𝓤 H A least.ended (least.clauses 𝓤 H A at-mem run) tt least-args tt n) (fact 𝓤 (n ≡ min count (length ys)))
-  said-least n = exE 𝓤 _ (λ ws. snd∗ 𝓤 (sem 𝓤 H A (lasts least.ended tt least-args ws)) (fact 𝓤 (n ≡ min count (length ys))))
-
   -- `reach`: the sheet is copied, and a copy kept
   abbrev to-read : ℕ → Read 𝓤 H A at-mem run .Ghost
   to-read i = (((κ′, tt), (q′, tt), tt, (y, (i, tt)), (sv ∷ [], (vint w64 i ∷ [], tt))), tt)
@@ -187,127 +165,119 @@ module _ {M : Type 1} (𝓤 : URA M) (H : Heap 𝓤) (A : Atoms 𝓤) (W : Given
       nothing ! $ move ! (3 ∷ 0 ∷ []) $ fjoin ! $ owned ! usize (Is usize) (uint-makes 𝓤 H A W w64) i _ (refl, fits) $ fjoin ! $ move ! (2 ∷ 0 ∷ []) $ fjoin ! $
       nothing ! $ move ! (2 ∷ 0 ∷ []) $ join ! $ move ! (0 ∷ 1 ∷ []) $ join ! $ frame ! $ done !
 
-  module _ (end : ℕ) (least : end ≡ min count (length ys)) (end-fits : end < 2 ^ 64) where
-    abbrev Upto : Type 0
-    Upto = (i : ℕ) × (i ≤ end)
+  abbrev Upto : Type 0
+  Upto = (i : ℕ) × (i ≤ count)
 
-    abbrev Nearer : Upto → Upto → Type 0
-    Nearer j i = end - j .0 < end - i .0
+  abbrev Nearer : Upto → Upto → Type 0
+  Nearer j i = count - j .0 < count - i .0
 
-    Nearer-wf : WellFounded Nearer
-    Nearer-wf = InvImage·wf (λ (i : Upto). end - i .0) (Nat·lt-wfRel .wf)
+  Nearer-wf : WellFounded Nearer
+  Nearer-wf = InvImage·wf (λ (i : Upto). count - i .0) (Nat·lt-wfRel .wf)
 
-    in-list : end ≤ length ys
-    in-list = subst (λ (m : ℕ). m ≤ length ys) (sym least) (min-le-right count (length ys))
+  long : (i : Upto) → length (F (i .0)) ≡ length ys
+  long i = table-length (y .now) ys (i .0)
 
-    long : (i : Upto) → length (F (i .0)) ≡ length ys
-    long i = table-length (y .now) ys (i .0) (le-trans (i .1) in-list)
+  exits : (i : ℕ) → i ≡ count → length (F i) ≡ length ys → ent 𝓤 (⋆ 𝓤 H A (Kept i)) (Post vunit)
+  exits i e l =
+      qed W (Kept i) ∵
+      suffices ! _ (ends-at 𝓤 H A the-fn.ended stayed (the-fn.clauses 𝓤 H A at-mem run) W (((κ, (κ′, tt)), (q, (q′, tt)), tt, a, at), tt) vunit tt (F i, (tt, (tt, tt))) (l, (tt, (tt, tt)))) $
+      says ! (table-filled (y .now) ys count i e) $ nothing ! $ move ! (3 ∷ 0 ∷ []) $ join ! $ move ! (2 ∷ 0 ∷ []) $ join ! $ frame ! $
+      nothing ! $ owned ! usize (Is usize) (uint-makes 𝓤 H A W w64) count _ (refl, count-fits) $ fjoin ! $ move ! (2 ∷ 0 ∷ []) $ fjoin ! $ move ! (1 ∷ 0 ∷ []) $ fjoin ! $ frame ! $
+      feqI ! (List Val) (vunit ∷ []) (vunit ∷ []) refl $ done !
 
-    exits : (i : ℕ) → i ≡ end → length (F i) ≡ length ys → ent 𝓤 (⋆ 𝓤 H A (Kept i)) (Post vunit)
-    exits i e l =
-        qed W (Kept i) ∵
-        suffices ! _ (ends-at 𝓤 H A the-fn.ended stayed (the-fn.clauses 𝓤 H A at-mem run) W (((κ, (κ′, tt)), (q, (q′, tt)), tt, a, at), tt) vunit tt (F i, (tt, (tt, tt))) (l, (tt, (tt, tt)))) $
-        says ! (table-filled (y .now) ys count i (e ∙ least)) $ nothing ! $ move ! (3 ∷ 0 ∷ []) $ join ! $ move ! (2 ∷ 0 ∷ []) $ join ! $ frame ! $
-        nothing ! $ owned ! usize (Is usize) (uint-makes 𝓤 H A W w64) count _ (refl, count-fits) $ fjoin ! $ move ! (2 ∷ 0 ∷ []) $ fjoin ! $ move ! (1 ∷ 0 ∷ []) $ fjoin ! $
-        frame ! $
-        feqI ! (List Val) (vunit ∷ []) (vunit ∷ []) refl $ done !
+  module _ (𝓣 : Tables 𝓤 H) (fm : FmC 𝓤 H (W .laws) (𝓣 .C)) (known-read : Triple 𝓤 (𝓣 .C #read) (Read 𝓤 H A at-mem run)) (known-put : Triple 𝓤 (𝓣 .C #put) (Put 𝓤 H A at-mem run)) (l0 l1 l2 l3 l4 l5 l6 l7 l8 l9 : ℕ) where
+    abbrev C : Calls 𝓤 H
+    C = 𝓣 .C
 
-    module _ (𝓣 : Tables 𝓤 H) (fm : FmC 𝓤 H (W .laws) (𝓣 .C)) (known-read : Triple 𝓤 (𝓣 .C #read) (Read 𝓤 H A at-mem run)) (known-put : Triple 𝓤 (𝓣 .C #put) (Put 𝓤 H A at-mem run)) (l0 l1 l2 l3 l4 l5 l6 l7 l8 l9 l10 l11 : ℕ) where
-      abbrev C : Calls 𝓤 H
-      C = 𝓣 .C
+    abbrev Λ : Loops 𝓤 H
+    Λ = 𝓣 .Λ
 
-      abbrev Λ : Loops 𝓤 H
-      Λ = 𝓣 .Λ
+    abbrev En : Env 𝓤 H
+    En = (tyUnit, l0) ∷ (table-ty, l1) ∷ (sheet-ty, l2) ∷ (word, l3) ∷ (word, l4) ∷ (tyBool, l5) ∷ (tyUnit, l6) ∷ (ref-ty, l7) ∷ (lent-ty, l8) ∷ (T′.mir, l9) ∷ []
 
-      abbrev En : Env 𝓤 H
-      En = (tyUnit, l0) ∷ (table-ty, l1) ∷ (sheet-ty, l2) ∷ (word, l3) ∷ (word, l4) ∷ (word, l5) ∷ (word, l6) ∷ (tyBool, l7) ∷ (tyUnit, l8) ∷ (ref-ty, l9) ∷ (lent-ty, l10) ∷
-          (T′.mir, l11) ∷ []
+    -- the loop's invariant
+    abbrev At : Upto → List (Item 𝓤)
+    At i = ‵ (froom T′.mir l9 0) ∷ ‵ (fdies T′.mir l9) ∷ ‵ (froom lent-ty l8 0) ∷ ‵ (fdies lent-ty l8) ∷ ‵ (froom ref-ty l7 0) ∷ ‵ (fdies ref-ty l7) ∷ ‵ (froom tyUnit l6 0) ∷
+        ‵ (fdies tyUnit l6) ∷ ‵ (froom tyBool l5 0) ∷ ‵ (fdies tyBool l5) ∷ ‵ (fat fullShare word l4 0 (vint w64 (i .0))) ∷ ‵ (fdies word l4) ∷
+        ‵ (fat fullShare word l3 0 (vint w64 count)) ∷ ‵ (fdies word l3) ∷ ‵ (fat fullShare sheet-ty l2 0 sv) ∷ ‵ (fdies sheet-ty l2) ∷ ‵ (fat fullShare table-ty l1 0 s) ∷
+        ‵ (fdies table-ty l1) ∷ ‵ (froom tyUnit l0 0) ∷ ‵ (fdies tyUnit l0) ∷ Kept (i .0)
 
-      -- the loop's invariant
-      abbrev At : Upto → List (Item 𝓤)
-      At i = ‵ (froom T′.mir l11 0) ∷ ‵ (fdies T′.mir l11) ∷ ‵ (froom lent-ty l10 0) ∷ ‵ (fdies lent-ty l10) ∷ ‵ (froom ref-ty l9 0) ∷ ‵ (fdies ref-ty l9) ∷
-          ‵ (froom tyUnit l8 0) ∷ ‵ (fdies tyUnit l8) ∷ ‵ (froom tyBool l7 0) ∷ ‵ (fdies tyBool l7) ∷ ‵ (froom word l6 0) ∷ ‵ (fdies word l6) ∷
-          ‵ (fat fullShare word l5 0 (vint w64 (i .0))) ∷ ‵ (fdies word l5) ∷ ‵ (fat fullShare word l4 0 (vint w64 end)) ∷ ‵ (fdies word l4) ∷
-          ‵ (fat fullShare word l3 0 (vint w64 count)) ∷ ‵ (fdies word l3) ∷ ‵ (fat fullShare sheet-ty l2 0 sv) ∷ ‵ (fdies sheet-ty l2) ∷ ‵ (fat fullShare table-ty l1 0 s) ∷
-          ‵ (fdies table-ty l1) ∷ ‵ (froom tyUnit l0 0) ∷ ‵ (fdies tyUnit l0) ∷ Kept (i .0)
+    -- a turn's postcondition: it ends nearer to the end, or the loop is left and the rest of the body runs
+    abbrev Turned : Upto → Out → SProp 𝓤
+    Turned i = afterTurn 𝓤 H (Below 𝓤 H A Nearer At i) (afterBlock 𝓤 H (afterSeq 𝓤 H (Wp 𝓤 H C Λ En mir′.t-3 (atReturn 𝓤 H En Post)) (atReturn 𝓤 H En Post)))
 
-      -- a turn's postcondition: it ends nearer to the end, or the loop is left and the rest of the body runs
-      abbrev Turned : Upto → Out → SProp 𝓤
-      Turned i = afterTurn 𝓤 H (Below 𝓤 H A Nearer At i) (afterBlock 𝓤 H (afterSeq 𝓤 H (Wp 𝓤 H C Λ En mir′.t-5 (atReturn 𝓤 H En Post)) (atReturn 𝓤 H En Post)))
+    -- a turn that fills one entry
+    more : (i : Upto) → ltb (i .0) count ≡ true → Sq W (At i) (runs C Λ En mir′.turn-1 (anyQ (Turned i)))
+    unfolding afterTurn
+    more i e =
+        assigns ! (bin ! (load ! (from ! (stop !)) (look ! 10 refl)) (load ! (from ! (stop !)) (look ! 12 refl)) tt) (from ! (stop !)) (init ! 8 refl (tt, tt)) $
+        rewrite ! 8 (λ (t : Bool). ‵ (fat fullShare tyBool l5 0 (vbool t))) e refl $ stays ! (load ! (from ! (stop !)) (look ! 8 refl)) $
+        assigns ! (addr ! (from ! (fld ! refl (hop ! (look-in ! 16 (sub ! 0 refl (whole !))) (stop !))))) (from ! (stop !)) (init ! 4 refl (tt, tt)) $
+        assigns ! (agg ! (and-then ! (load ! (from ! (stop !)) (look ! 4 refl)) (and-then ! (load ! (from ! (fld ! refl (stop !))) (look-in ! 16 (sub ! 1 refl (whole !)))) (no-more !)))) (from ! (stop !)) (init ! 2 refl (tt, (tt, (record { fits = room .0 }, tt)))) $
+        -- `reach`
+        move ! (22 ∷ 23 ∷ []) $ use2 W (raw (Read 𝓤 H A at-mem run .pre (to-read (i .0))) ⊛ ‵ Sheet) (goes-read (i .0) i-fits) $ split ! $
+        calls-at ! fm (Read 𝓤 H A at-mem run) known-read (to-read (i .0)) (and-then ! (load ! (from ! (stop !)) (look ! 16 refl)) (and-then ! (load ! (from ! (stop !)) (look ! 12 refl)) (no-more !))) (λ u.
+        use1 W (later (some (λ (r : Reach). ((‵ (flft κ′ q′) ⊛ ‵ ftrue) ⊛ ‵ (T.the-row .own r (u ∷ []))) ⊛
+        raw (ensured 𝓤 H A read.ended (read.clauses 𝓤 H A at-mem run) (κ′, tt) (y, (i .0, tt)) tt r)))) (id⊢ 𝓤 _) $ await ! tt $ pick ! (λ r.
+        split ! $ move ! (1 ∷ []) $ use1 W (raw (fact 𝓤 (reachSays r ≡ reachOn (y .now) (i .0)))) (said-read (i .0) r) $
+        heard ! (reachSays r ≡ reachOn (y .now) (i .0)) (λ is-read. split ! $ split ! $ move ! (1 ∷ []) $ drop ! $ move ! (1 ∷ []) $
+        peeks ! T.the-row (Is T.the-row) (shows 𝓤 H A T.the-row) r (u ∷
+        []) (λ is. land ! (from ! (stop !)) (init ! 3 refl (LL.lawful T.the-type T′.the-laws 𝓤 H A W .typed r _ is .0)) $
+        -- `put`: the list is lent again, for a lifetime ν that is made for the call
+        lft-new ! tt (λ ν.
+        move ! (24 ∷ 25 ∷ []) $ rewrite ! 0 (λ (m : ℕ). ‵ (MutSlice (named 0) κ T.the-row .own (x (F (i .0))) (sliceVal (b, o) m ∷ []))) (sym (long i)) refl $
+        use2 W (later (some (λ (δ : GName). ‵ (MutSlice (named 0) (ν ∷ []) T.the-row .own (lent δ (i .0)) (sliceVal (b, o) (length (F (i .0))) ∷ [])) ⊛
+        ‵ (LentAgain T.the-row κ (ν ∷ []) q γ b o δ (F (i .0)))))) (lends-again T.the-row κ (ν ∷ []) q γ b o 𝓤 H A W (named 0) (named 0) (F (i .0))) $ await ! tt $
+        pick ! (λ δ. split ! $
+        rewrite ! 0 (λ (m : ℕ). ‵ (MutSlice (named 0) (ν ∷ []) T.the-row .own (lent δ (i .0)) (sliceVal (b, o) m ∷ []))) (long i) refl $
+        move ! (2 ∷ 0 ∷ 3 ∷ []) $ use3 W (raw (Put 𝓤 H A at-mem run .pre (to-put ν δ (i .0) r u))) (goes-put ν δ (i .0) r u i-fits) $
+        calls-at ! fm (Put 𝓤 H A at-mem run) known-put (to-put ν δ (i .0) r u) (and-then ! (load ! (from ! (stop !)) (look ! 6 refl)) (and-then ! (load ! (from ! (stop !)) (look ! 14 refl)) (and-then ! (load ! (from ! (stop !)) (look ! 4 refl)) (no-more !)))) (λ w.
+        use1 W (later (some (λ (t : Unit {0}). ((‵ (flft (ν ∷ []) fullShare) ⊛ ‵ ftrue) ⊛ ‵ (Nothing .own t (w ∷ []))) ⊛
+        raw (ensured 𝓤 H A put.ended (put.clauses 𝓤 H A at-mem run) (ν ∷ [], tt) (put-args δ (i .0) r) tt t)))) (id⊢ 𝓤 _) $ await ! tt $ pick ! (λ t.
+        split ! $ move ! (1 ∷ []) $ use1 W (some (λ (zs : List Reach × (Unit {0} × (Unit {0} × Unit {0}))). ‵ (lasts put.ended (ν ∷ [], tt) (put-args δ (i .0) r) zs) ⊛
+        raw (fact 𝓤 (zs .0 ≡ set (F (i .0)) (i .0) r)))) (id⊢ 𝓤 _) $ pick ! (λ zs. split ! $ move ! (1 ∷ []) $
+        heard ! (zs .0 ≡ set (F (i .0)) (i .0) r) (λ is-set. fsplit ! $ fsplit ! $ move ! (1 ∷ []) $ feqL ! (λ l. move ! (1 ∷ []) $ drop ! $
+        move ! (1 ∷ []) $ split ! $ move ! (1 ∷ []) $ peeks ! Nothing (Is Nothing) (shows 𝓤 H A Nothing) t (w ∷
+        []) (λ is-unit. land ! (from ! (stop !)) (init ! 12 refl (unit-typed w is-unit)) $ drop ! $
+        -- the lifetime ends, and the list comes back
+        split ! $ move ! (1 ∷ []) $ drop ! $ lft-end ! tt $ move ! (0 ∷ 2 ∷ 1 ∷ []) $
+        use3 W (later (‵ (MutSlice (named 0) κ T.the-row .own (x (zs .0)) (sliceVal (b, o) (length (F (i .0))) ∷ [])) ⊛ ‵ (flft κ q))) (comes-back T.the-row κ (ν ∷
+        []) q γ b o 𝓤 H A W (named 0) (named 0) (F (i .0)) δ (zs .0) (subst (Room T.the-row) (sym (long i)) room) l) $ await ! tt $ split ! $
+        rewrite ! 0 (λ (m : ℕ). ‵ (MutSlice (named 0) κ T.the-row .own (x (zs .0)) (sliceVal (b, o) m ∷ []))) (long i) refl $
+        rewrite ! 0 (λ (z : List Reach). ‵ (MutSlice (named 0) κ T.the-row .own (x z) (s ∷ []))) (is-set ∙ next r is-read) refl $
+        assigns-last ! (bin ! (load ! (from ! (stop !)) (look ! 14 refl)) (lit ! tt) (record { fits = next-fits })) (from ! (stop !)) (store ! 14 refl (tt, record { fits = next-fits })) $
+        forget ! 12 refl $ forget ! 10 refl $ forget ! 8 refl $ forget ! 6 refl $ forget ! 4 refl $
+        keep ! (4 ∷ 5 ∷ 6 ∷ 7 ∷ 8 ∷ 9 ∷ 10 ∷ 11 ∷ 12 ∷ 13 ∷ 14 ∷ 15 ∷ 16 ∷ 17 ∷ 18 ∷ 19 ∷ 20 ∷ 21 ∷ 22 ∷ 23 ∷ 0 ∷ 1 ∷ 2 ∷ 3 ∷ []) $
+        again ! Nearer At i (i .0 + 1, add-one-le less) (add-one-dec count (i .0) less)))))))))))))
+      where
+        less : i .0 < count
+        less = ltb→lt (i .0) count (subst Holds (sym e) tt)
 
-      -- a turn that fills one entry
-      more : (i : Upto) → ltb (i .0) end ≡ true → Sq W (At i) (runs C Λ En mir′.turn-1 (anyQ (Turned i)))
-      unfolding afterTurn
-      more i e =
-          assigns ! (bin ! (load ! (from ! (stop !)) (look ! 12 refl)) (load ! (from ! (stop !)) (look ! 14 refl)) tt) (from ! (stop !)) (init ! 8 refl (tt, tt)) $
-          rewrite ! 8 (λ (t : Bool). ‵ (fat fullShare tyBool l7 0 (vbool t))) e refl $ stays ! (load ! (from ! (stop !)) (look ! 8 refl)) $
-          assigns ! (addr ! (from ! (fld ! refl (hop ! (look-in ! 20 (sub ! 0 refl (whole !))) (stop !))))) (from ! (stop !)) (init ! 4 refl (tt, tt)) $
-          assigns ! (agg ! (and-then ! (load ! (from ! (stop !)) (look ! 4 refl)) (and-then ! (load ! (from ! (fld ! refl (stop !))) (look-in ! 20 (sub ! 1 refl (whole !)))) (no-more !)))) (from ! (stop !)) (init ! 2 refl (tt, (tt, (record { fits = room .0 }, tt)))) $
-          -- `reach`
-          move ! (26 ∷ 27 ∷ []) $ use2 W (raw (Read 𝓤 H A at-mem run .pre (to-read (i .0))) ⊛ ‵ Sheet) (goes-read (i .0) i-fits) $ split ! $
-          calls-at ! fm (Read 𝓤 H A at-mem run) known-read (to-read (i .0)) (and-then ! (load ! (from ! (stop !)) (look ! 20 refl)) (and-then ! (load ! (from ! (stop !)) (look ! 14 refl)) (no-more !))) (λ u.
-          use1 W (later (some (λ (r : Reach). ((‵ (flft κ′ q′) ⊛ ‵ ftrue) ⊛ ‵ (T.the-row .own r (u ∷ []))) ⊛
-          raw (ensured 𝓤 H A read.ended (read.clauses 𝓤 H A at-mem run) (κ′, tt) (y, (i .0, tt)) tt r)))) (id⊢ 𝓤 _) $ await ! tt $ pick ! (λ r.
-          split ! $ move ! (1 ∷ []) $ use1 W (raw (fact 𝓤 (reachSays r ≡ reachOn (y .now) (i .0)))) (said-read (i .0) r) $
-          heard ! (reachSays r ≡ reachOn (y .now) (i .0)) (λ is-read. split ! $ split ! $ move ! (1 ∷ []) $ drop ! $ move ! (1 ∷ []) $
-          peeks ! T.the-row (Is T.the-row) (shows 𝓤 H A T.the-row) r (u ∷
-          []) (λ is. land ! (from ! (stop !)) (init ! 3 refl (LL.lawful T.the-type T′.the-laws 𝓤 H A W .typed r _ is .0)) $
-          -- `put`: the list is lent again, for a lifetime ν that is made for the call
-          lft-new ! tt (λ ν.
-          move ! (28 ∷ 29 ∷ []) $ rewrite ! 0 (λ (m : ℕ). ‵ (MutSlice (named 0) κ T.the-row .own (x (F (i .0))) (sliceVal (b, o) m ∷ []))) (sym (long i)) refl $
-          use2 W (later (some (λ (δ : GName). ‵ (MutSlice (named 0) (ν ∷ []) T.the-row .own (lent δ (i .0)) (sliceVal (b, o) (length (F (i .0))) ∷ [])) ⊛
-          ‵ (LentAgain T.the-row κ (ν ∷ []) q γ b o δ (F (i .0)))))) (lends-again T.the-row κ (ν ∷ []) q γ b o 𝓤 H A W (named 0) (named 0) (F (i .0))) $ await ! tt $
-          pick ! (λ δ. split ! $
-          rewrite ! 0 (λ (m : ℕ). ‵ (MutSlice (named 0) (ν ∷ []) T.the-row .own (lent δ (i .0)) (sliceVal (b, o) m ∷ []))) (long i) refl $
-          move ! (2 ∷ 0 ∷ 3 ∷ []) $ use3 W (raw (Put 𝓤 H A at-mem run .pre (to-put ν δ (i .0) r u))) (goes-put ν δ (i .0) r u i-fits) $
-          calls-at ! fm (Put 𝓤 H A at-mem run) known-put (to-put ν δ (i .0) r u) (and-then ! (load ! (from ! (stop !)) (look ! 6 refl)) (and-then ! (load ! (from ! (stop !)) (look ! 16 refl)) (and-then ! (load ! (from ! (stop !)) (look ! 4 refl)) (no-more !)))) (λ w.
-          use1 W (later (some (λ (t : Unit {0}). ((‵ (flft (ν ∷ []) fullShare) ⊛ ‵ ftrue) ⊛ ‵ (Nothing .own t (w ∷ []))) ⊛
-          raw (ensured 𝓤 H A put.ended (put.clauses 𝓤 H A at-mem run) (ν ∷ [], tt) (put-args δ (i .0) r) tt t)))) (id⊢ 𝓤 _) $ await ! tt $ pick ! (λ t.
-          split ! $ move ! (1 ∷ []) $ use1 W (some (λ (zs : List Reach × (Unit {0} × (Unit {0} × Unit {0}))). ‵ (lasts put.ended (ν ∷ [], tt) (put-args δ (i .0) r) zs) ⊛
-          raw (fact 𝓤 (zs .0 ≡ set (F (i .0)) (i .0) r)))) (id⊢ 𝓤 _) $ pick ! (λ zs. split ! $ move ! (1 ∷ []) $
-          heard ! (zs .0 ≡ set (F (i .0)) (i .0) r) (λ is-set. fsplit ! $ fsplit ! $ move ! (1 ∷ []) $ feqL ! (λ l. move ! (1 ∷ []) $ drop ! $
-          move ! (1 ∷ []) $ split ! $ move ! (1 ∷ []) $ peeks ! Nothing (Is Nothing) (shows 𝓤 H A Nothing) t (w ∷
-          []) (λ is-unit. land ! (from ! (stop !)) (init ! 12 refl (unit-typed w is-unit)) $ drop ! $
-          -- the lifetime ends, and the list comes back
-          split ! $ move ! (1 ∷ []) $ drop ! $ lft-end ! tt $ move ! (0 ∷ 2 ∷ 1 ∷ []) $
-          use3 W (later (‵ (MutSlice (named 0) κ T.the-row .own (x (zs .0)) (sliceVal (b, o) (length (F (i .0))) ∷ [])) ⊛ ‵ (flft κ q))) (comes-back T.the-row κ (ν ∷
-          []) q γ b o 𝓤 H A W (named 0) (named 0) (F (i .0)) δ (zs .0) (subst (Room T.the-row) (sym (long i)) room) l) $ await ! tt $ split ! $
-          rewrite ! 0 (λ (m : ℕ). ‵ (MutSlice (named 0) κ T.the-row .own (x (zs .0)) (sliceVal (b, o) m ∷ []))) (long i) refl $
-          rewrite ! 0 (λ (z : List Reach). ‵ (MutSlice (named 0) κ T.the-row .own (x z) (s ∷ []))) (is-set ∙ next r is-read) refl $
-          assigns-last ! (bin ! (load ! (from ! (stop !)) (look ! 16 refl)) (lit ! tt) (record { fits = next-fits })) (from ! (stop !)) (store ! 16 refl (tt, record { fits = next-fits })) $
-          forget ! 12 refl $ forget ! 10 refl $ forget ! 8 refl $ forget ! 6 refl $ forget ! 4 refl $
-          keep ! (4 ∷ 5 ∷ 6 ∷ 7 ∷ 8 ∷ 9 ∷ 10 ∷ 11 ∷ 12 ∷ 13 ∷ 14 ∷ 15 ∷ 16 ∷ 17 ∷ 18 ∷ 19 ∷ 20 ∷ 21 ∷ 22 ∷ 23 ∷ 24 ∷ 25 ∷ 26 ∷ 27 ∷ 0 ∷ 1 ∷ 2 ∷ 3 ∷ []) $
-          again ! Nearer At i (i .0 + 1, add-one-le less) (add-one-dec end (i .0) less)))))))))))))
-        where
-          less : i .0 < end
-          less = ltb→lt (i .0) end (subst Holds (sym e) tt)
+        i-fits : i .0 < 2 ^ 64
+        i-fits = lt-of-le-of-lt (i .1) count-fits
 
-          i-fits : i .0 < 2 ^ 64
-          i-fits = lt-of-le-of-lt (i .1) end-fits
+        next-fits : i .0 + 1 < 2 ^ 64
+        next-fits = lt-of-le-of-lt (add-one-le less) count-fits
 
-          next-fits : i .0 + 1 < 2 ^ 64
-          next-fits = lt-of-le-of-lt (add-one-le less) end-fits
+        next : (r : Reach) → reachSays r ≡ reachOn (y .now) (i .0) → set (F (i .0)) (i .0) r ≡ F (i .0 + 1)
+        next r is-read = table-next (y .now) ys (i .0) r is-read
 
-          next : (r : Reach) → reachSays r ≡ reachOn (y .now) (i .0) → set (F (i .0)) (i .0) r ≡ F (i .0 + 1)
-          next r is-read = table-next (y .now) ys (i .0) r (lt-of-lt-of-le less in-list) is-read
+    -- the turn that leaves the loop, and the rest of the body
+    ends : (i : Upto) → ltb (i .0) count ≡ false → Sq W (At i) (runs C Λ En mir′.turn-1 (anyQ (Turned i)))
+    unfolding afterTurn
+    ends i e =
+        assigns ! (bin ! (load ! (from ! (stop !)) (look ! 10 refl)) (load ! (from ! (stop !)) (look ! 12 refl)) tt) (from ! (stop !)) (init ! 8 refl (tt, tt)) $
+        rewrite ! 8 (λ (t : Bool). ‵ (fat fullShare tyBool l5 0 (vbool t))) e refl $ leaves-loop ! (load ! (from ! (stop !)) (look ! 8 refl)) $
+        exec ! C Λ En mir′.t-3 (atRet En Post) $
+        assigns ! (of-opd ! (unit-lit !)) (from ! (stop !)) (init ! 18 refl (tt, tt)) $
+        returns ! (look ! 18 refl) $ move ! (18 ∷ 19 ∷ 16 ∷ 17 ∷ 14 ∷ 15 ∷ 12 ∷ 13 ∷ 10 ∷ 11 ∷ 8 ∷ 9 ∷ 6 ∷ 7 ∷ 4 ∷ 5 ∷ 2 ∷ 3 ∷ 0 ∷ 1 ∷ []) $
+        frees-all ! (holds (vunit) ∷ holds (s) ∷ holds (sv) ∷ holds (vint w64 count) ∷ holds (vint w64 (i .0)) ∷ holds (vbool false) ∷ empty ∷ empty ∷ empty ∷ empty ∷ []) tt $
+        keep ! (0 ∷ 1 ∷ 2 ∷ 3 ∷ []) $ by ! (exits (i .0) (le-antisymm (i .1) (nltb→le (i .0) count (subst (λ (t : Bool). Holds (not t)) (sym e) tt))) (long i))
 
-      -- the turn that leaves the loop, and the rest of the body
-      ends : (i : Upto) → ltb (i .0) end ≡ false → Sq W (At i) (runs C Λ En mir′.turn-1 (anyQ (Turned i)))
-      unfolding afterTurn
-      ends i e =
-          assigns ! (bin ! (load ! (from ! (stop !)) (look ! 12 refl)) (load ! (from ! (stop !)) (look ! 14 refl)) tt) (from ! (stop !)) (init ! 8 refl (tt, tt)) $
-          rewrite ! 8 (λ (t : Bool). ‵ (fat fullShare tyBool l7 0 (vbool t))) e refl $ leaves-loop ! (load ! (from ! (stop !)) (look ! 8 refl)) $
-          exec ! C Λ En mir′.t-5 (atRet En Post) $
-          assigns ! (of-opd ! (unit-lit !)) (from ! (stop !)) (init ! 22 refl (tt, tt)) $
-          returns ! (look ! 22 refl) $ move ! (22 ∷ 23 ∷ 20 ∷ 21 ∷ 18 ∷ 19 ∷ 16 ∷ 17 ∷ 14 ∷ 15 ∷ 12 ∷ 13 ∷ 10 ∷ 11 ∷ 8 ∷ 9 ∷ 6 ∷ 7 ∷ 4 ∷ 5 ∷ 2 ∷ 3 ∷ 0 ∷ 1 ∷ []) $
-          frees-all ! (holds (vunit) ∷ holds (s) ∷ holds (sv) ∷ holds (vint w64 count) ∷ holds (vint w64 end) ∷ holds (vint w64 (i .0)) ∷ empty ∷ holds (vbool false) ∷ empty ∷
-          empty ∷ empty ∷ empty ∷ []) tt $
-          keep ! (0 ∷ 1 ∷ 2 ∷ 3 ∷ []) $ by ! (exits (i .0) (le-antisymm (i .1) (nltb→le (i .0) end (subst (λ (t : Bool). Holds (not t)) (sym e) tt))) (long i))
+    turns : (i : Upto) → Sq W (At i) (runs C Λ En mir′.turn-1 (anyQ (Turned i)))
+    turns i = by-bool (ltb (i .0) count) (more i) (ends i)
 
-      turns : (i : Upto) → Sq W (At i) (runs C Λ En mir′.turn-1 (anyQ (Turned i)))
-      turns i = by-bool (ltb (i .0) end) (more i) (ends i)
-
-  module _ (𝓣 : Tables 𝓤 H) (known-least : Triple 𝓤 (𝓣 .C #least) (Least 𝓤 H A at-mem run)) (known-read : Triple 𝓤 (𝓣 .C #read) (Read 𝓤 H A at-mem run)) (known-put : Triple 𝓤 (𝓣 .C #put) (Put 𝓤 H A at-mem run)) where
+  module _ (𝓣 : Tables 𝓤 H) (known-read : Triple 𝓤 (𝓣 .C #read) (Read 𝓤 H A at-mem run)) (known-put : Triple 𝓤 (𝓣 .C #put) (Put 𝓤 H A at-mem run)) where
     abbrev fm : FmC 𝓤 H (W .laws) (𝓣 .C)
     fm = fmOf 𝓤 H (W .laws) 𝓣
 
@@ -315,39 +285,31 @@ module _ {M : Type 1} (𝓤 : URA M) (H : Heap 𝓤) (A : Atoms 𝓤) (W : Given
     trace =
         qed W ((‵ (flft κ q) ⊛ (‵ (flft κ′ q′) ⊛ ‵ ftrue)) ∷ ‵ (owns (MutSlice (named 0) κ T.the-row ∷ ShrSlice (named 1) κ′ u8 ∷ usize ∷ []) a at) ∷ []) ∵
         enter ! (𝓣 .C) (𝓣 .Λ) code.function (s ∷ sv ∷ vint w64 count ∷ []) _ $
-        alloc1 ! (λ l0. alloc1 ! (λ l1. alloc1 ! (λ l2. alloc1 ! (λ l3. alloc1 ! (λ l4. alloc1 ! (λ l5. alloc1 ! (λ l6. alloc1 ! (λ l7. alloc1 ! (λ l8. alloc1 ! (λ l9. alloc1 ! (λ l10. alloc1 ! (λ l11. alloc0 ! $
+        alloc1 ! (λ l0. alloc1 ! (λ l1. alloc1 ! (λ l2. alloc1 ! (λ l3. alloc1 ! (λ l4. alloc1 ! (λ l5. alloc1 ! (λ l6. alloc1 ! (λ l7. alloc1 ! (λ l8. alloc1 ! (λ l9. alloc0 ! $
         params1 ! $
-        pass1 ! (init ! 20 refl (tt, (tt, (record { fits = room .0 }, tt)))) $ pass1 ! (init ! 18 refl (tt, (tt, (record { fits = sheet-room .0 }, tt)))) $
-        pass1 ! (init ! 16 refl (tt, record { fits = count-fits })) $ pass0 ! $
-        assigns ! (of-opd ! (load ! (from ! (fld ! refl (stop !))) (look-in ! 20 (sub ! 1 refl (whole !))))) (from ! (stop !)) (init ! 10 refl (tt, record { fits = room .0 })) $
-        -- `least`
-        nothing ! $ use1 W (raw (Least 𝓤 H A at-mem run .pre to-least)) goes-least $
-        calls-at ! fm (Least 𝓤 H A at-mem run) known-least to-least (and-then ! (load ! (from ! (stop !)) (look ! 17 refl)) (and-then ! (load ! (from ! (stop !)) (look ! 11 refl)) (no-more !))) (λ u.
-        use1 W (later (some (λ (n : ℕ). (‵ ftrue ⊛ ‵ (usize .own n (u ∷ []))) ⊛ raw (ensured 𝓤 H A least.ended (least.clauses 𝓤 H A at-mem run) tt least-args tt n)))) (id⊢ 𝓤 _) $
-        await ! tt $ pick ! (λ end.
-        split ! $ move ! (1 ∷ []) $ use1 W (raw (fact 𝓤 (end ≡ min count (length ys)))) (said-least end) $ heard ! (end ≡ min count (length ys)) (λ least. split ! $ drop ! $
-        peeks ! usize (Is usize) (shows 𝓤 H A usize) end (u ∷ []) (λ is. land ! (from ! (stop !)) (init ! 15 refl (uint-lawful 𝓤 H A W w64 .typed end _ is .0)) $ drop ! $
-        rewrite ! 14 (λ (v : Val). ‵ (fat fullShare word l4 0 v)) (ap only (is .0)) refl $
-        assigns ! (of-opd ! (lit ! tt)) (from ! (stop !)) (init ! 12 refl (tt, record { fits = lit< tt })) $
-        move ! (25 ∷ []) $ fsplit ! $ move ! (1 ∷ []) $ fsplit ! $ move ! (27 ∷ []) $ split ! $ move ! (1 ∷ []) $ split ! $ keep ! (6 ∷ 7 ∷ 8 ∷ 9 ∷ 10 ∷ 11 ∷ 12 ∷ 13 ∷ 14 ∷ 15 ∷
-        16 ∷ 17 ∷ 18 ∷ 19 ∷ 20 ∷ 21 ∷ 22 ∷ 23 ∷ 24 ∷ 25 ∷ 26 ∷ 27 ∷ 28 ∷ 29 ∷ 5 ∷ 2 ∷ 0 ∷ 3 ∷ []) $
-        forget ! 10 refl $ first ! $ blocks ! $
-        loops ! 𝓣 (Nearer end least (is .1)) (Nearer-wf end least (is .1)) (At end least (is .1) 𝓣 fm known-read known-put l0 l1 l2 l3 l4 l5 l6 l7 l8 l9 l10 l11) (turns end least (is .1) 𝓣 fm known-read known-put l0 l1 l2 l3 l4 l5 l6 l7 l8 l9 l10 l11) (0, zero-le)))))))))))))))))
+        pass1 ! (init ! 16 refl (tt, (tt, (record { fits = room .0 }, tt)))) $ pass1 ! (init ! 14 refl (tt, (tt, (record { fits = sheet-room .0 }, tt)))) $
+        pass1 ! (init ! 12 refl (tt, record { fits = count-fits })) $ pass0 ! $
+        assigns ! (of-opd ! (lit ! tt)) (from ! (stop !)) (init ! 10 refl (tt, record { fits = lit< tt })) $
+        move ! (21 ∷ []) $ fsplit ! $ move ! (1 ∷ []) $ fsplit ! $ move ! (23 ∷ []) $ split ! $ move ! (1 ∷ []) $ split ! $
+        move ! (5 ∷ []) $ rewrite ! 0 (λ (z : List Reach). ‵ (MutSlice (named 0) κ T.the-row .own (x z) (s ∷ []))) (sym (table-none (y .now) ys)) refl $
+        keep ! (6 ∷ 7 ∷ 8 ∷ 9 ∷ 10 ∷ 11 ∷ 12 ∷ 13 ∷ 14 ∷ 15 ∷ 16 ∷ 17 ∷ 18 ∷ 19 ∷ 20 ∷ 21 ∷ 22 ∷ 23 ∷ 24 ∷ 25 ∷ 0 ∷ 3 ∷ 1 ∷ 4 ∷ []) $
+        first ! $ blocks ! $
+        loops ! 𝓣 Nearer Nearer-wf (At 𝓣 fm known-read known-put l0 l1 l2 l3 l4 l5 l6 l7 l8 l9) (turns 𝓣 fm known-read known-put l0 l1 l2 l3 l4 l5 l6 l7 l8 l9) (0, zero-le)))))))))))
 
 module _ {M : Type 1} (𝓤 : URA M) (H : Heap 𝓤) (A : Atoms 𝓤) (W : Given 𝓤 H A) (at-mem : Memory → SProp 𝓤) (run : Routine → Fun 𝓤) where
-  traces : (𝓣 : Tables 𝓤 H) → Triple 𝓤 (𝓣 .C #least) (Least 𝓤 H A at-mem run) → Triple 𝓤 (𝓣 .C #read) (Read 𝓤 H A at-mem run) → Triple 𝓤 (𝓣 .C #put) (Put 𝓤 H A at-mem run) →
+  traces : (𝓣 : Tables 𝓤 H) → Triple 𝓤 (𝓣 .C #read) (Read 𝓤 H A at-mem run) → Triple 𝓤 (𝓣 .C #put) (Put 𝓤 H A at-mem run) →
       Walks 𝓤 H A the-fn.ended stayed (WpFn 𝓤 H (𝓣 .C) (𝓣 .Λ) code.function) (the-fn.clauses 𝓤 H A at-mem run)
-  traces 𝓣 known-least known-read known-put =
+  traces 𝓣 known-read known-put =
       walked 𝓤 H A the-fn.ended stayed (the-fn.clauses 𝓤 H A at-mem run) (WpFn 𝓤 H (𝓣 .C) (𝓣 .Λ) code.function)
       (λ κs. (slice-vals, (slice-vals, (uint-vals w64, tt)))) (λ κs. (mut-slice-tells (named 0) (κs .0) T.the-row, (shr-slice-tells (named 1) (κs .1 .0) u8, (uint-tells w64, tt))))
-      (λ κs qs bounds a g are. via 𝓤 _ (fst∗ 𝓤 _ (emp 𝓤)) (trace 𝓤 H A W at-mem run (κs .0) (κs .1 .0) (qs .0) (qs .1 .0) (a .0 .ptr .0) (a .0 .ptr .1) (a .0 .name) (a .0 .now) (a .1 .0) (a .1 .1 .0) (are .0 .0 .1) (are .1 .0 .0 .1) (are .1 .1 .0 .1) 𝓣 known-least known-read known-put))
+      (λ κs qs bounds a g are. via 𝓤 _ (fst∗ 𝓤 _ (emp 𝓤)) (trace 𝓤 H A W at-mem run (κs .0) (κs .1 .0) (qs .0) (qs .1 .0) (a .0 .ptr .0) (a .0 .ptr .1) (a .0 .name) (a .0 .now) (a .1 .0) (a .1 .1 .0) (are .0 .0 .1) (are .1 .0 .0 .1) (are .1 .1 .0 .1) 𝓣 known-read known-put))
 
 meets : {M : Type 1} (𝓤 : URA M) (H : Heap 𝓤) (A : Atoms 𝓤) → Given 𝓤 H A → (at-mem : Memory → SProp 𝓤) (run : Routine → Fun 𝓤) (𝓣 : Tables 𝓤 H) →
-    Triple 𝓤 (𝓣 .C #least) (Least 𝓤 H A at-mem run) → Triple 𝓤 (𝓣 .C #read) (Read 𝓤 H A at-mem run) → Triple 𝓤 (𝓣 .C #put) (Put 𝓤 H A at-mem run) →
+    Triple 𝓤 (𝓣 .C #read) (Read 𝓤 H A at-mem run) → Triple 𝓤 (𝓣 .C #put) (Put 𝓤 H A at-mem run) →
     Meets 𝓤 H A the-fn.signature (WpFn 𝓤 H (𝓣 .C) (𝓣 .Λ) code.function) (the-fn.spec 𝓤 H A at-mem run)
-meets 𝓤 H A W at-mem run 𝓣 known-least known-read known-put =
+meets 𝓤 H A W at-mem run 𝓣 known-read known-put =
     walk-meets 𝓤 H A the-fn.ended stayed W (goes-slice 𝓤 H A W 2 0 tt (plain (λ _. T.the-row)), (goes-none-slice 𝓤 H A W 2 (1 ∷ []) tt (plain (λ _. u8)) yes, (goes-none 𝓤 H A W 2 (λ _. usize) yes (λ κs x f. refl), tt))) (the-fn.clauses 𝓤 H A at-mem run)
-    (WpFn 𝓤 H (𝓣 .C) (𝓣 .Λ) code.function) (WpFn-mono 𝓤 H (W .laws) 𝓣 code.function) (traces 𝓤 H A W at-mem run 𝓣 known-least known-read known-put)
+    (WpFn 𝓤 H (𝓣 .C) (𝓣 .Λ) code.function) (WpFn-mono 𝓤 H (W .laws) 𝓣 code.function) (traces 𝓤 H A W at-mem run 𝓣 known-read known-put)
 
 pub fill-spec : {M : Type 1} → stated.statement M
 unfolding code.routine tablesOf
@@ -355,6 +317,5 @@ fill-spec 𝓤 H 𝓜 𝓖 𝓡 =
     entered 𝓤 H (tripleOf 𝓤 H (𝓖 .A) the-fn.signature (the-fn.spec 𝓤 H (𝓖 .A) (𝓜 .mem) (𝓡 .run)))
     (tables 𝓤 H 𝓜 𝓡 code.env .C) (tables 𝓤 H 𝓜 𝓡 code.env .Λ) #the-fn code.function (code.unfolded 𝓤 H 𝓜 𝓡)
     (meets 𝓤 H (𝓖 .A) (givenOf 𝓤 H 𝓜 𝓖) (𝓜 .mem) (𝓡 .run) (tablesOf 𝓤 H 𝓜 (tables 𝓤 H 𝓜 𝓡 code.env))
-    (cited 𝓤 H (Least 𝓤 H (𝓖 .A) (𝓜 .mem) (𝓡 .run)) 𝓜 𝓡 code.env #least least-def.routine code.calls-lists·least (least-thm.met 𝓤 H 𝓜 𝓖 𝓡))
     (cited 𝓤 H (Read 𝓤 H (𝓖 .A) (𝓜 .mem) (𝓡 .run)) 𝓜 𝓡 code.env #read read-def.routine code.calls-sheet·fields·reach (read-thm.met 𝓤 H 𝓜 𝓖 𝓡))
     (cited 𝓤 H (Put 𝓤 H (𝓖 .A) (𝓜 .mem) (𝓡 .run)) 𝓜 𝓡 code.env #put put-def.routine code.calls-records·put (put-thm.met 𝓤 H 𝓜 𝓖 𝓡)))
