@@ -1,6 +1,6 @@
 -- A river just loaded passes the tests of a start: what 13 and 14 look at has passed 3, 6, 7 and 12. And its lists are what a call is to be lent.
 use mathlib.Core.Path.{_≡_, refl, ap, _∙_}
-use mathlib.Core.Bool.{Bool, true, false, not, cond, _&&_}
+use mathlib.Core.Bool.{Bool, true, false, not, cond, _&&_, _||_}
 use mathlib.Core.List.{List, _++_, map}
 use Prim.Native.Nat.{ℕ, suc, _<_, _≤_}
 use native.Mathlib.Omega.{arith}
@@ -9,18 +9,18 @@ use lib.Dec.{eqb, ltb}
 use lib.ListN.{length}
 use Rattle.lists.specs.Lists.{over, anyShorter}
 use Rattle.lists.proofs.Lowest.{lowest-end}
-use Rattle.lists.proofs.Shorter.{neither}
+use Rattle.lists.proofs.Shorter.{neither, none-shorter, shorter-both}
 use Rattle.model.specs.Ranges.{outside, concentration, mostKd, mostSegments}
-use Rattle.model.specs.Sheet.{flowRowCount, segmentCount}
-use Rattle.model.specs.Flow.{Course, courseOf, reachAt}
+use Rattle.model.specs.Sheet.{reachCount, flowRowCount, segmentCount}
+use Rattle.model.specs.Flow.{Course, courseOf, flowInForce, reachAt}
 use Rattle.model.specs.HalfStep.{isLast, gOf, numbers, Segment, loadedSegment}
 use Rattle.model.specs.State.{Columns, columnLists, State, stateLists, loadedSegments, writeSegments}
 use Rattle.model.specs.Refusals.{segment, accepted, passes, testEach, first}
 use Rattle.model.specs.Load.{sumFault, sheetTests, courseTests, riverTests, listTests, loadTests, Loaded, loaded, loadAnswer, loadColumns}
 use Rattle.model.specs.Highest.{blocksFault}
 use Rattle.model.specs.Calls.{riverFault, numbersFault, segmentFault, startFault, startTests}
-use Rattle.model.specs.Runs.{LoadedFor}
-use Rattle.model.specs.Claim.{LoadedLists}
+use Rattle.model.specs.Runs.{LoadedFor, PairAsLoaded}
+use Rattle.model.specs.Claim.{LeftFor, LoadedLists}
 use Rattle.model.specs.PoolClaim.{OwnLists}
 use Rattle.model.proofs.Refusals.{all-pass, first-rest, first-both, flows-clear, test-clear, each-clear, each-passes, outcome-passes, accepted-passes, accepted-values}
 use Rattle.loading_laws.proofs.Sheets.{FitReach, right, river-length}
@@ -83,15 +83,21 @@ module _ (sheet : List ℕ) (r records : ℕ) (columns : Columns) (front : first
       rw (segment-as-loaded left-loaded i h)
       (segment-passes (courseOf sheet r) (segmentCount sheet) i (river-length sheet r) (sums-pass i h) (ok .fit r i h))
 
-  -- 13: the lists have an entry for each segment
-  pub lists-long : (before : State) → OwnLists (segmentCount sheet) before → anyShorter (segmentCount sheet) (columnLists leftColumns ++ stateLists before) ≡ false
+  -- 13: they have an entry for each segment
+  left-long : anyShorter (segmentCount sheet) (columnLists leftColumns) ≡ false
   unfolding writeSegments anyShorter
-  lists-long before own =
+  left-long =
       let n = segmentCount sheet in
       let long : (part : Segment → ℕ) (list : List ℕ) → ltb (length (over (map part (loadedSegments sheet r)) list)) n ≡ false =
       λ part list. le-ltb (length (over (map part (loadedSegments sheet r)) list)) n (written-long (loadedSegment (courseOf sheet r)) n part list) in
-      let equal : (m : ℕ) → m ≡ n → ltb m n ≡ false = λ m e. le-ltb m n (omega arith) in
-      simp (long, equal (length (before .channel)) (own .channel), equal (length (before .storage)) (own .storage), equal (length (before .sediment)) (own .sediment))
+      simp long
+
+  -- and so has a state of as many
+  pub lists-long : (before : State) → OwnLists (segmentCount sheet) before → anyShorter (segmentCount sheet) (columnLists leftColumns ++ stateLists before) ≡ false
+  lists-long before own =
+      let n = segmentCount sheet in
+      rw (shorter-both n (columnLists leftColumns) (stateLists before), left-long)
+      (none-shorter n (stateLists before) (omega (arith, own .channel), (omega (arith, own .storage), (omega (arith, own .sediment), tt))))
 
   -- 13, with the count of segments
   pub river-clear : (before : State) → OwnLists (segmentCount sheet) before → riverFault (segmentCount sheet) (columnLists leftColumns ++ stateLists before) ≡ false
@@ -110,13 +116,63 @@ module _ (sheet : List ℕ) (r records : ℕ) (columns : Columns) (front : first
       let low = lowest-end (startFault n leftColumns) n start-clear in
       rw (river-clear before own, enough, each-passes 14 segment n (startFault n leftColumns) (omega (arith, low)), e)
 
--- what an accepted loading leaves is what a call is to be lent
+  -- what an accepted call is to be lent
+  pub left-for : LeftFor sheet r (segmentCount sheet) leftColumns
+  left-for = record { known = known; lists = left-loaded; set = set-as-loaded left-loaded; long = left-long }
+
+  -- 13 of the lists passes for every other flow
+  pub any-flow : (other : ℕ) → other ≤ flowRowCount sheet → first (listTests sheet other records columns) ≡ passes
+  unfolding listTests
+  any-flow other h =
+      let clear = test-clear 13 _ (all-pass (listTests sheet r records columns) lists .0) in
+      let a = neither (ltb (flowRowCount sheet) r || anyShorter (segmentCount sheet) (columnLists columns)) (ltb records (reachCount sheet)) clear in
+      let b = neither (ltb (flowRowCount sheet) r) (anyShorter (segmentCount sheet) (columnLists columns)) (a .0) in
+      rw (le-ltb (flowRowCount sheet) other h, b .1, a .1)
+
+-- ---- a loading
+
+-- what an accepted one has passed
+pub record LoadPassed (sheet : List ℕ) (r records : ℕ) (columns : Columns) (v : Loaded) : Type 0 where
+  pub front : first (riverTests sheet) ≡ passes
+  pub lists : first (listTests sheet r records columns) ≡ passes
+  pub values : loaded sheet ≡ v
+
+pub load-passed : {sheet : List ℕ} {r records : ℕ} {columns : Columns} {v : Loaded} → loadAnswer sheet r records columns ≡ accepted v →
+    LoadPassed sheet r records columns v
+unfolding loadAnswer loadTests
+load-passed {sheet} {r} {records} {columns} {v} e =
+    let tests = loadTests sheet r records columns in
+    let passed = first-both (riverTests sheet) (listTests sheet r records columns) (accepted-passes tests (loaded sheet) (rw e tt)) in
+    record { front = passed .0; lists = passed .1; values = accepted-values tests (loaded sheet) v e }
+
+-- with the values of an accepted loading or opening
+pub with-values : {sheet : List ℕ} {r : ℕ} {columns : Columns} {v : Loaded} → loaded sheet ≡ v → LeftFor sheet r (segmentCount sheet) columns →
+    LeftFor sheet r (v .segments) columns
+unfolding loaded
+with-values e left = let count : segmentCount _ ≡ _ = ap (λ (x : Loaded). x .segments) e in rw (← count) left
+
+-- what is left for the flows in force at n and at n + 1 is the pair of the step between
+pub pair-left : {sheet : List ℕ} {n m m′ : ℕ} {old new : Columns} → LeftFor sheet (flowInForce sheet n) m old → LeftFor sheet (flowInForce sheet (suc n)) m′ new →
+    PairAsLoaded sheet n (old .numbers) (record { count = m′; columns = new })
+pair-left before after = record {
+  before = rw (after .lists .count) (rw (before .lists .count) at (before .set));
+  after = after .lists;
+}
+
+-- what an accepted loading leaves
+pub loading-left : (sheet : List ℕ) (r records : ℕ) (columns : Columns) {v : Loaded} → loadAnswer sheet r records columns ≡ accepted v →
+    LeftFor sheet r (v .segments) (loadColumns sheet r records columns)
+unfolding loadColumns
+loading-left sheet r records columns e =
+    let passed = load-passed e in rw e (with-values (passed .values) (left-for sheet r records columns (passed .front) (passed .lists)))
+
 pub loaded-lists : LoadedLists
-unfolding loadColumns loaded loadAnswer loadTests
-loaded-lists sheet r records columns v e =
-    let tests = loadTests sheet r (length records) columns in
-    let count : segmentCount sheet ≡ v .segments = ap (λ (x : Loaded). x .segments) (accepted-values tests (loaded sheet) v e) in
-    let passed = first-both (riverTests sheet) (listTests sheet r (length records) columns) (accepted-passes tests (loaded sheet) (rw e tt)) in
-    let lists : LoadedFor sheet r (record { count = v .segments; columns = loadColumns sheet r (length records) columns }) =
-    rw (← count, e) (left-loaded sheet r (length records) columns (passed .0) (passed .1)) in
-    record { known = known sheet r (length records) columns (passed .0) (passed .1); lists = lists; set = set-as-loaded lists }
+loaded-lists = record {
+  left = λ sheet r records columns v e. loading-left sheet r (length records) columns e;
+  flows = λ sheet r records columns v e other h.
+      let passed = load-passed e in
+      loads sheet other (length records) columns (passed .front) (any-flow sheet r (length records) columns (passed .front) (passed .lists) other h)
+      ∙ ap accepted (passed .values);
+  pairs = λ sheet n records records′ columns columns′ v v′ e e′.
+      pair-left (loading-left sheet (flowInForce sheet n) (length records) columns e) (loading-left sheet (flowInForce sheet (suc n)) (length records′) columns′ e′);
+}

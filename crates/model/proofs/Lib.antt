@@ -1,9 +1,11 @@
 pub mod Ranges
 pub mod Refusals
 pub mod Clamp
+pub mod Search
 pub mod FlowRows
 pub mod Bench
 pub mod FlowBench
 pub mod LateralBench
 pub mod PoolBench
 pub mod SearchBench
+pub mod Witnesses

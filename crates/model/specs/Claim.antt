@@ -1,20 +1,22 @@
 -- Demand 3, "one claim about the whole list and not one for each call".
 use mathlib.Core.Path.{_≡_}
 use mathlib.Core.List.{List, [], _∷_}
-use Prim.Native.Nat.{ℕ, _-_, _*_, _≤_}
+use mathlib.Core.Bool.{false}
+use Prim.Native.Nat.{ℕ, suc, _-_, _*_, _≤_}
 use lib.Dec.{T}
 use lib.ListN.{length}
+use Rattle.lists.specs.Lists.{anyShorter}
 use Rattle.fractions.specs.Fractions.{Same, Within, _·_}
 use Rattle.model.specs.Sheet.{Reach, segmentCount, flowRowCount}
-use Rattle.model.specs.Flow.{courseOf}
+use Rattle.model.specs.Flow.{courseOf, flowInForce}
 use Rattle.model.specs.HalfStep.{Segment, loadedSegment}
 use Rattle.model.specs.Equations.{Figures}
 use Rattle.model.specs.ExactRiver.{ExactFigures}
-use Rattle.model.specs.State.{Columns, loadedSegments, State, figuresAt, figuresOf}
+use Rattle.model.specs.State.{Columns, columnLists, loadedSegments, State, figuresAt, figuresOf}
 use Rattle.model.specs.Refusals.{accepted}
 use Rattle.model.specs.Load.{Loaded, loadAnswer, loadColumns}
 use Rattle.model.specs.Calls.{Reported, reportAnswer}
-use Rattle.model.specs.Runs.{Lent, Call, start, accepts, run, LoadedFor, SetFor, AsLoaded, Fed, events, Exact, noRiver, ExactRun}
+use Rattle.model.specs.Runs.{Lent, Call, start, accepts, run, LoadedFor, SetFor, AsLoaded, PairAsLoaded, Fed, events, Exact, noRiver, ExactRun}
 
 -- two lists "hold the same figures", segment by segment
 pub data SameFigures : List ExactFigures → List ExactFigures → Type 0 where
@@ -71,15 +73,27 @@ Demand3 =
     (before : State) (lent : Lent) (highest : List ℕ) (u : ℕ) (calls : List Call) → T (accepts before (start lent highest u)) →
     Fed sheet before (start lent highest u ∷ calls) → Holds sheet before (start lent highest u ∷ calls)
 
--- what a loading leaves for flow r, in lists of n segments: what an accepted call is to be lent, and, as `lists` implies, an old set
+-- what a loading leaves for flow r, in lists of n segments: what an accepted call is to be lent and, as `lists` implies, an old set. `lists` reads
+-- 0 past the end of a list, so that 13 of the lists stands beside it.
 pub record LeftFor (sheet : List ℕ) (r n : ℕ) (columns : Columns) : Type 0 where
   pub known : r ≤ flowRowCount sheet
   pub lists : LoadedFor sheet r (record { count = n; columns = columns })
   pub set : SetFor sheet r n (columns .numbers)
+  pub long : anyShorter n (columnLists columns) ≡ false
 
--- What an accepted loading leaves in the fourteen lists is what an accepted call is to be lent, its set on either side of a step.
-abbrev pub LoadedLists : Type 0
-LoadedLists =
-    (sheet : List ℕ) (r : ℕ) (records : List Reach) (columns : Columns) (v : Loaded) →
-    loadAnswer sheet r (length records) columns ≡ accepted v →
-    LeftFor sheet r (v .segments) (loadColumns sheet r (length records) columns)
+-- What accepted calls are to be lent can be had of every accepted sheet, for every step.
+pub record LoadedLists : Type 0 where
+  -- what an accepted loading leaves in the fourteen lists is what an accepted call is to be lent, its set on either side of a step
+  pub left : (sheet : List ℕ) (r : ℕ) (records : List Reach) (columns : Columns) (v : Loaded) →
+      loadAnswer sheet r (length records) columns ≡ accepted v →
+      LeftFor sheet r (v .segments) (loadColumns sheet r (length records) columns)
+  -- a loading that is accepted for one flow of the sheet is accepted for each of them
+  pub flows : (sheet : List ℕ) (r : ℕ) (records : List Reach) (columns : Columns) (v : Loaded) →
+      loadAnswer sheet r (length records) columns ≡ accepted v →
+      (other : ℕ) → other ≤ flowRowCount sheet → loadAnswer sheet other (length records) columns ≡ accepted v
+  -- and what two loadings leave, for the flows in force at steps n and n + 1, is the pair of the step from n to n + 1
+  pub pairs : (sheet : List ℕ) (n : ℕ) (records records′ : List Reach) (columns columns′ : Columns) (v v′ : Loaded) →
+      loadAnswer sheet (flowInForce sheet n) (length records) columns ≡ accepted v →
+      loadAnswer sheet (flowInForce sheet (suc n)) (length records′) columns′ ≡ accepted v′ →
+      PairAsLoaded sheet n (loadColumns sheet (flowInForce sheet n) (length records) columns .numbers)
+      (record { count = v′ .segments; columns = loadColumns sheet (flowInForce sheet (suc n)) (length records′) columns′ })

@@ -23,3 +23,4 @@ pub mod FlowBench
 pub mod LateralBench
 pub mod PoolBench
 pub mod SearchBench
+pub mod Witnesses

@@ -6,17 +6,20 @@ use mathlib.Core.Bool.{true, false}
 use mathlib.Core.List.{List}
 use mathlib.Core.Logic.{_⊎_}
 use mathlib.Core.Option.{Option, none, some}
-use Prim.Native.Nat.{ℕ, _≤_, _<_}
+use Prim.Native.Nat.{ℕ, suc, _≤_, _<_}
 use lib.ListN.{length}
 use Rattle.lists.specs.Lists.{tab}
 use Rattle.model.specs.Ranges.{mostRivers}
+use Rattle.model.specs.Sheet.{flowRowCount, segmentCount}
+use Rattle.model.specs.Flow.{flowInForce}
 use Rattle.model.specs.State.{NumberSet, Columns, State}
-use Rattle.model.specs.Refusals.{nothing, Outcome, refused, passes, fails}
+use Rattle.model.specs.Refusals.{nothing, Outcome, accepted, refused, passes, fails}
+use Rattle.model.specs.Load.{Loaded, loadAnswer, loadColumns}
 use Rattle.model.specs.Calls.{Working, startAnswer, startHighest, stepAnswer, stepHighest, stepWorking, reportAnswer}
 use Rattle.model.specs.Search.{SearchAnswer}
-use Rattle.model.specs.Runs.{start, after, run, Fed}
-use Rattle.model.specs.Claim.{Holds}
-use Rattle.model.specs.Pool.{isOpen, vacant, slotAt, slotOf, Pool, stateOf, openAnswer, poolStartAnswer, poolStartHighest, poolStepAnswer, poolStepHighest, poolStepWorking, poolReportAnswer, PoolSearchAnswer, closeFinding}
+use Rattle.model.specs.Runs.{start, after, run, PairAsLoaded, Fed}
+use Rattle.model.specs.Claim.{Holds, LeftFor}
+use Rattle.model.specs.Pool.{isOpen, vacant, slotAt, slotOf, Pool, stateOf, roomFault, openAnswer, openColumns, poolStartAnswer, poolStartHighest, poolStepAnswer, poolStepHighest, poolStepWorking, poolReportAnswer, PoolSearchAnswer, closeFinding}
 use Rattle.model.specs.PoolRuns.{PoolCall, runPool, Own, ownCalls, ownSince}
 
 -- "Begun with none open": a table of eight slots, none of them open, and lists of any length and content
@@ -35,12 +38,13 @@ abbrev pub vacated : Pool → Pool
 vacated pool =
     record { table = tab 0 mostRivers (λ i. vacant); channel = pool .channel; storage = pool .storage; sediment = pool .sediment }
 
--- "only the two new refusals may depend on the others": an opening under this number is refused with 17, or gets the answer that it would get
--- with no river open; 18, which looks at the table, does not come up in such a list
+-- "only the two new refusals may depend on the others": an opening under this number gets the answer that it would get with no river open, or 17
+-- refuses it, and then on its ground: the number is outside 1 to 8 or open, or there are not so many segments left. 18, which looks at the table,
+-- does not come up in such a list.
 abbrev pub OpensAlone : Pool → (number : ℕ) → Type 0
 OpensAlone pool number =
     (sheet : List ℕ) (r records : ℕ) (columns : Columns) (highest : List ℕ) (u : ℕ) →
-    (openAnswer sheet r records columns pool number highest u ≡ refused 17 nothing)
+    ((openAnswer sheet r records columns pool number highest u ≡ refused 17 nothing) × (roomFault (pool .table) number (segmentCount sheet) ≡ true))
     ⊎ (openAnswer sheet r records columns pool number highest u ≡ openAnswer sheet r records columns (vacated pool) number highest u)
 
 -- a river that is not open: its other calls are refused with 18
@@ -71,9 +75,12 @@ pub record AsAlone (pool : Pool) (number : ℕ) (own : Own) (before : State) : T
       poolStepWorking pool number old new highest working u′ M ≡ stepWorking (own .lent .count) old new (run before (ownCalls own)) highest working u′ M
   pub reports : (columns : Columns) (segment : ℕ) →
       poolReportAnswer pool number columns segment ≡ reportAnswer (own .lent .count) columns (run before (ownCalls own)) segment
-  -- a search may give no other answer than alone
+  -- a search may give the answers that it may give alone, and no other
   pub searches : (highest : List ℕ) (limit : ℕ) (answer : Outcome (Option ℕ)) → PoolSearchAnswer (pool .table) (pool .channel) number highest limit answer →
       SearchAnswer (own .lent .count) (run before (ownCalls own) .channel) highest limit answer
+  pub searchesAll : (highest : List ℕ) (limit : ℕ) (answer : Outcome (Option ℕ)) →
+      SearchAnswer (own .lent .count) (run before (ownCalls own) .channel) highest limit answer →
+      PoolSearchAnswer (pool .table) (pool .channel) number highest limit answer
   -- "demand 3 holds of each for its own calls", where each accepted call since the opening is lent what a loading of the sheet gives for it
   pub demand3 : Fed (own .sheet) (after before (start (own .lent) (own .highest) (own .u))) (own .since) → Holds (own .sheet) before (ownCalls own)
 
@@ -96,3 +103,20 @@ abbrev pub Sharing : Type 0
 Sharing =
     (before : Pool) → NoneOpen before → (calls : List PoolCall) (number : ℕ) →
     Shown (runPool before calls) number (ownSince number before calls none) × OpensAlone (runPool before calls) number
+
+-- `LoadedLists` of an opening: what its river's accepted calls are to be lent is what it left and what loadings of its sheet leave.
+pub record OpenedLists : Type 0 where
+  -- what an accepted opening leaves in the fourteen lists
+  pub left : (sheet : List ℕ) (r records : ℕ) (columns : Columns) (pool : Pool) (number : ℕ) (highest : List ℕ) (u : ℕ) (v : Loaded) →
+      openAnswer sheet r records columns pool number highest u ≡ accepted v →
+      LeftFor sheet r (v .segments) (openColumns sheet r records columns pool number highest u)
+  -- every flow of its sheet can be loaded
+  pub flows : (sheet : List ℕ) (r records : ℕ) (columns : Columns) (pool : Pool) (number : ℕ) (highest : List ℕ) (u : ℕ) (v : Loaded) →
+      openAnswer sheet r records columns pool number highest u ≡ accepted v →
+      (other : ℕ) → other ≤ flowRowCount sheet → loadAnswer sheet other records columns ≡ accepted v
+  -- what an opening for the flow in force at step n and a loading for that at n + 1 leave is the pair of the step from n to n + 1
+  pub pairs : (sheet : List ℕ) (n records records′ : ℕ) (columns columns′ : Columns) (pool : Pool) (number : ℕ) (highest : List ℕ) (u : ℕ) (v v′ : Loaded) →
+      openAnswer sheet (flowInForce sheet n) records columns pool number highest u ≡ accepted v →
+      loadAnswer sheet (flowInForce sheet (suc n)) records′ columns′ ≡ accepted v′ →
+      PairAsLoaded sheet n (openColumns sheet (flowInForce sheet n) records columns pool number highest u .numbers)
+      (record { count = v′ .segments; columns = loadColumns sheet (flowInForce sheet (suc n)) records′ columns′ })

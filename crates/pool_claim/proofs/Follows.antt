@@ -23,7 +23,7 @@ use Rattle.distance_claim.proofs.Claim.{demand3}
 use Rattle.pool_laws.proofs.Tables.{fault-apart, clear-number}
 use Rattle.pool_laws.proofs.Pools.{long-shared, Sound, Beside}
 use Rattle.pool_claim.proofs.Lengths.{run-last}
-use Rattle.pool_laws.proofs.Answers.{tests-pass, start-alone, start-highest-alone, step-alone, step-highest-alone, works-alone, report-alone, search-alone}
+use Rattle.pool_laws.proofs.Answers.{tests-pass, start-alone, start-highest-alone, step-alone, step-highest-alone, works-alone, report-alone, search-alone, search-on-pool}
 use Rattle.pool_claim.proofs.Answers.{not-open}
 
 -- how a river began: a loading of its sheet was accepted, and a start on the lists that it left is, into any lists of its own
@@ -133,6 +133,10 @@ module _ (pool : Pool) (number : ℕ) (sound : Sound pool) where
           searches = λ highest limit answer s.
               subst (λ (x : State). SearchAnswer (own .lent .count) (x .channel) highest limit answer) state
               (subst (λ n. SearchAnswer n (stateOf pool number .channel) highest limit answer) (f .segments) (search-alone pool number pass highest limit answer s));
+          searchesAll = λ highest limit answer s.
+              search-on-pool pool number pass highest limit answer
+              (subst (λ n. SearchAnswer n (stateOf pool number .channel) highest limit answer) (sym (f .segments))
+              (subst (λ (x : State). SearchAnswer (own .lent .count) (x .channel) highest limit answer) (sym state) s));
           demand3 = λ fed. let b = f .begun in
               demand3 (own .sheet) (b .flow) (b .records) (b .columns) (loaded (own .sheet)) (b .loading) before (own .lent) (own .highest) (own .u) (own .since)
               (b .starts before lists) (Fed.more (λ a. b .lists) fed);

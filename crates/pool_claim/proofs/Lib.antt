@@ -5,3 +5,4 @@ pub mod Follows
 pub mod Opening
 pub mod Calls
 pub mod Claim
+pub mod OpenedLists

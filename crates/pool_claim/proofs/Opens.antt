@@ -84,16 +84,16 @@ opens-alone pool number right sheet r records columns highest u = go (first (riv
     n = segmentCount sheet
 
     room : first (riverTests sheet) ≡ passes → (t : Bool) → roomFault (pool .table) number n ≡ t →
-        (openAnswer sheet r records columns pool number highest u ≡ refused 17 nothing)
+        ((openAnswer sheet r records columns pool number highest u ≡ refused 17 nothing) × (roomFault (pool .table) number n ≡ true))
         ⊎ (openAnswer sheet r records columns pool number highest u ≡ openAnswer sheet r records columns (vacated pool) number highest u)
-    room q true e = inl (no-room pool number sheet r records columns highest u (first-rest (riverTests sheet) (newTests (pool .table) number n) q ∙ rw e))
+    room q true e = inl (no-room pool number sheet r records columns highest u (first-rest (riverTests sheet) (newTests (pool .table) number n) q ∙ rw e), e)
     room q false e =
         inr (same-answer pool number sheet r records columns highest u
         (first-rest (riverTests sheet) (newTests (pool .table) number n) q ∙ (rw (e, right, room-alone (pool .table) number n e, none-at-fault))
         ∙ sym (first-rest (riverTests sheet) (newTests noRivers number n) q)))
 
     go : (t : Finding) → first (riverTests sheet) ≡ t →
-        (openAnswer sheet r records columns pool number highest u ≡ refused 17 nothing)
+        ((openAnswer sheet r records columns pool number highest u ≡ refused 17 nothing) × (roomFault (pool .table) number n ≡ true))
         ⊎ (openAnswer sheet r records columns pool number highest u ≡ openAnswer sheet r records columns (vacated pool) number highest u)
     go passes q = room q (roomFault (pool .table) number n) refl
     go (fails k place) q =

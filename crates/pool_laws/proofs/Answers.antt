@@ -1,5 +1,5 @@
 -- What a call on an open river answers: what document 01's call on its stretch answers.
-use mathlib.Core.Path.{_≡_, ap, _∙_}
+use mathlib.Core.Path.{_≡_, sym, ap, _∙_}
 use mathlib.Core.Bool.{false}
 use mathlib.Core.List.{List, [], _∷_}
 use mathlib.Core.Option.{Option}
@@ -7,10 +7,10 @@ use Prim.Native.Nat.{ℕ, suc, _-_}
 use Rattle.lists.proofs.Shorter.{none-shorter}
 use Rattle.model.specs.Ranges.{mostSegments}
 use Rattle.model.specs.State.{NumberSet, Columns}
-use Rattle.model.specs.Refusals.{Outcome, passes, first, answer}
+use Rattle.model.specs.Refusals.{Outcome, Finding, passes, first, answer}
 use Rattle.model.specs.Highest.{highestAfter}
 use Rattle.model.specs.Calls.{Working, startAnswer, startState, startHighest, stepAnswer, stepState, stepHighest, workingAfterStep, stepWorking, reported, reportAnswer}
-use Rattle.model.specs.Search.{searchTests, SearchAnswer}
+use Rattle.model.specs.Search.{searchTests, Searches, SearchAnswer}
 use Rattle.model.specs.Pool.{Pool, slotOf, stateOf, numberFault, sharedFault, poolTests, poolStartTests, poolStartAnswer, poolStartHighest}
 use Rattle.model.specs.Pool.{poolStepTests, poolStepAnswer, poolStepHighest, poolStepWorking, poolReportTests, poolReportAnswer, poolSearchTests, PoolSearchAnswer}
 use Rattle.model.proofs.Refusals.{first-rest, all-pass, test-clear}
@@ -27,6 +27,11 @@ pub tests-clear : (pool : Pool) (number : ℕ) → first (poolTests pool number)
 unfolding poolTests
 tests-clear pool number e =
     let both = all-pass (poolTests pool number) e in (test-clear 18 _ (both .0), test-clear 13 _ (both .1 .0))
+
+-- searches whose tests find the same may give the same answers
+same-tests : {tests others : List Finding} {n : ℕ} {channel highest : List ℕ} {limit : ℕ} {found : Outcome (Option ℕ)} → first tests ≡ first others →
+    Searches tests n channel highest limit found → Searches others n channel highest limit found
+same-tests same s = record { found = s .found; finds = λ e. s .finds (same ∙ e); is = s .is ∙ ap (λ t. answer t (s .found)) same }
 
 module _ (pool : Pool) (number : ℕ) (pass : first (poolTests pool number) ≡ passes) where
   module _ (columns : Columns) (highest : List ℕ) (u : ℕ) where
@@ -74,9 +79,13 @@ module _ (pool : Pool) (number : ℕ) (pass : first (poolTests pool number) ≡ 
       let clear = tests-clear pool number pass in
       rw (clear .0, none-shorter mostSegments (pool .channel ∷ []) (shared-long pool (clear .1) .channel, tt))
 
-  -- so it may give no other answer
+  -- so it may give the answers that it may give there
   pub search-alone : (highest : List ℕ) (limit : ℕ) (found : Outcome (Option ℕ)) → PoolSearchAnswer (pool .table) (pool .channel) number highest limit found →
       SearchAnswer (slotOf (pool .table) number .segments) (stateOf pool number .channel) highest limit found
-  search-alone highest limit found s =
-      let same = search-tests highest in
-      record { found = s .found; finds = λ e. s .finds (same ∙ e); is = s .is ∙ ap (λ t. answer t (s .found)) same }
+  search-alone highest limit found s = same-tests (search-tests highest) s
+
+  -- and no other
+  pub search-on-pool : (highest : List ℕ) (limit : ℕ) (found : Outcome (Option ℕ)) →
+      SearchAnswer (slotOf (pool .table) number .segments) (stateOf pool number .channel) highest limit found →
+      PoolSearchAnswer (pool .table) (pool .channel) number highest limit found
+  search-on-pool highest limit found s = same-tests (sym (search-tests highest)) s

@@ -3,3 +3,4 @@ pub mod Tables
 pub mod Pools
 pub mod Answers
 pub mod Openings
+pub mod Witnesses

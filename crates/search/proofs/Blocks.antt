@@ -1,14 +1,12 @@
 -- A search by blocks: what is known before a segment, and how a turn of each loop adds to it.
-use mathlib.Core.Path.{_≡_, refl, sym, _∙_}
+use mathlib.Core.Path.{_≡_}
 use mathlib.Core.List.{List}
 use mathlib.Core.Logic.{⊎-elim}
-use mathlib.Core.Option.{none, some, Option·some-injective, Option·none-ne-some, Option·some-ne-none}
 use Prim.Native.Nat.{ℕ, _+_, _*_, _/_, _≤_, _<_}
-use native.Mathlib.Numerals.{add-one}
 use native.Mathlib.Omega.{arith}
 use lib.ListN.{getD}
 use Rattle.lists.proofs.Stretch.{lt-or-ge}
-use Rattle.model.specs.Search.{Above, NoneAbove, Finds}
+use Rattle.model.specs.Search.{Above, NoneAbove}
 
 -- none of the first s segments is above in a block that is
 pub record NoneBelow (n : ℕ) (channel highest : List ℕ) (limit s : ℕ) : Type 0 where
@@ -47,16 +45,4 @@ module _ {n : ℕ} {channel highest : List ℕ} {limit : ℕ} where
   skip b {from} e low r = record {
     none = λ k l x.
         ⊎-elim (λ less. r .none k less x) (λ more. let q : k / 16 ≡ b = omega arith in omega (arith, rw q at (x .block))) (lt-or-ge k from);
-  }
-
-  -- ---- what is found
-
-  pub finds-none : NoneAbove n channel highest limit → Finds n channel highest limit none
-  finds-none h = record { noneIf = λ h. refl; noneOnlyIf = λ e. h; choice = λ number e. absurd (Option·none-ne-some number e) }
-
-  pub finds-some : {i number : ℕ} → number ≡ i + 1 → Above n channel highest limit i → Finds n channel highest limit (some number)
-  finds-some {i} {number} e x = record {
-    noneIf = λ h. absurd (h i x);
-    noneOnlyIf = λ q. absurd (Option·some-ne-none number q);
-    choice = λ m q. (i, sym (Option·some-injective number m q) ∙ e ∙ add-one i, x);
   }

@@ -5,7 +5,8 @@ use Prim.Native.Nat.{_+_, _-_, _*_, _≤_}
 use native.Mathlib.Omega.{arith}
 use borrow.Author.Needs.{needs}
 use Rattle.search.specs.declared.Search.the-variants.{Nothing}
-use Rattle.search.proofs.Blocks.{NoneBelow, none-start, hit, miss, end-block, end-river, none-to, skip, finds-none, finds-some}
+use Rattle.model.proofs.Search.{finds-none, finds-some}
+use Rattle.search.proofs.Blocks.{NoneBelow, none-start, hit, miss, end-block, end-river, none-to, skip}
 use Rattle.search.proofs.find.Statement.{statement}
 use Rattle.search.proofs.find.Tie as tie
 

@@ -1,0 +1,235 @@
+-- Each claim can be met, and each can fail.
+use mathlib.Core.Path.{_≡_, refl, sym, ap, _∙_}
+use mathlib.Core.List.{List, [], _∷_, map}
+use mathlib.Core.Option.{Option, none, some}
+use Prim.Native.Nat.{ℕ, zero, suc, _+_, _*_, _<_}
+use native.Mathlib.Omega.{arith}
+use lib.Dec.{T, leb, lit<, lit≤}
+use lib.IntN.{pos, natAbs}
+use lib.ListN.{getD-replicate}
+use lib.Signed.{leZ-yes}
+use Rattle.lists.specs.Lists.{lowestFrom, lowest, anyShorter, notRising, highestBelow}
+use Rattle.rounding.specs.Nearest.{nearest}
+use Rattle.rounding.specs.Floor.{floorDiv}
+use Rattle.fractions.specs.Fractions.{Same, Within, _·_}
+use Rattle.model.specs.Ranges.{outside, anyOutside}
+use Rattle.model.specs.Sheet.{flowRowStart, flowRowTop, flowRowStarts, flowRowTops, sections, hasFlowRows, startsWith, field, headerField, sectionEnd, rowCountAt, gaugeCountAt, flowRowCountAt, sheetEnd, flowRowCount, recordField, reachFields, reachOf, reachOn, reaches, rowStarts, rowConcentrations, gauges, totalSegments, segmentCount, alongRiver}
+use Rattle.model.specs.Flow.{lastBegun, flowInForce, topOf, courseOf, reachAt, ownGain, gain, flow, discharge}
+use Rattle.model.specs.HalfStep.{Numbers, Segment, ad, isLast, adAbove, adBelow, eOf, gOf, rateOf, numbers, loadedSegment}
+use Rattle.model.specs.Sweep.{P, N, F, R, rowOf, newStorage, newSediment, newFigures, downward, stepped}
+use Rattle.model.specs.Equations.{Figures}
+use Rattle.model.specs.ExactRiver.{ExactFigures}
+use Rattle.model.specs.State.{pairAt, numbersAt, segmentAt, writeSegments, figuresAt, writeFigures}
+use Rattle.model.specs.Refusals.{nothing, accepted, refused, Finding, passes, first}
+use Rattle.model.specs.Load.{flowRowFault, testFlows, unmarked, walk, startsLate, rowFault, gaugeFault, flowFault, faceFault, sumFault, sheetTests, courseTests, listTests, loadTests, loaded, loadAnswer, loadColumns}
+use Rattle.model.specs.Highest.{blockHighest, blocksFault}
+use Rattle.model.specs.Calls.{oldFault, numbersFault, riverFault, segmentFault, figureFault, startFault, stateFault, heldFault, startTests, startAnswer, startState, startHighest, stepTests, stepAnswer, stepState, stepHighest, reportTests, reported, reportAnswer}
+use Rattle.model.specs.Search.{searchTests, Above, Finds, Searches, SearchAnswer, Clear}
+use Rattle.model.specs.Runs.{start, report, accepts, after, run, AsLoaded, PairAsLoaded, Fed}
+use Rattle.model.specs.Claim.{SameFigures, SamePast, Near}
+use Rattle.model.specs.Pool.{vacant}
+use Rattle.model.specs.PoolClaim.{NoneOpen}
+use Rattle.model.specs.SearchClaim.{leftSince}
+use Rattle.model.specs.Bench.{bytes, allBytes, zeros, noState, noWork}
+use Rattle.model.specs.FlowBench.{snow, melting}
+use Rattle.model.specs.Witnesses.{allClosed, meltingFor, meltingStep, meltingSteps, meltingCalls, AllAccepted, Demand3Met, kd2, exactly, NearBench, halves, SamePastBench, PairBench, SearchAnswersBench, TellsBench, SearchMet}
+use Rattle.model.proofs.Refusals.{outcome-passes}
+use Rattle.model.proofs.Search.{finds-none, finds-some}
+
+-- ---- demand 3: its premises
+
+-- what the calls are lent, and what they answer
+melting-lent : (AsLoaded melting (meltingFor 0)) × (PairAsLoaded melting 0 (meltingFor 0 .columns .numbers) (meltingFor 1))
+    × (PairAsLoaded melting 1 (meltingFor 1 .columns .numbers) (meltingFor 1)) × (AsLoaded melting (meltingFor 2))
+    × (loadAnswer melting 0 1 (zeros 2) ≡ accepted (loaded melting)) × (AllAccepted (noState 2) meltingCalls)
+unfolding accepts after run meltingFor meltingStep meltingSteps meltingCalls noState lowestFrom lowest anyShorter notRising nearest floorDiv outside anyOutside startsWith field headerField sectionEnd rowCountAt gaugeCountAt sheetEnd recordField reachFields reachOf reachOn reaches rowStarts rowConcentrations gauges totalSegments segmentCount alongRiver courseOf reachAt ownGain gain flow discharge ad isLast adAbove adBelow eOf gOf rateOf numbers loadedSegment P N F R rowOf newStorage newSediment newFigures downward stepped segmentAt writeSegments figuresAt writeFigures unmarked walk startsLate rowFault gaugeFault flowFault faceFault sumFault sheetTests courseTests listTests loadTests loaded loadAnswer loadColumns blocksFault riverFault segmentFault figureFault startFault stateFault heldFault startTests startAnswer startState stepTests stepAnswer stepState reportTests reported reportAnswer bytes allBytes zeros noWork topOf sections hasFlowRows flowRowCountAt flowRowCount testFlows numbersFault numbersAt oldFault pairAt lastBegun flowInForce flowRowStart flowRowTop flowRowStarts flowRowTops flowRowFault snow melting
+melting-lent = (
+  record { flow = 0; known = lit≤ tt; lists = record { count = refl; segments = refl } },
+  record { before = refl; after = record { count = refl; segments = refl } },
+  record { before = refl; after = record { count = refl; segments = refl } },
+  record { flow = 2; known = lit≤ tt; lists = record { count = refl; segments = refl } },
+  refl,
+  (tt, (tt, (tt, (tt, tt)))),
+)
+
+pub melting-fed : Fed melting (noState 2) meltingCalls
+unfolding accepts after run meltingFor meltingStep meltingSteps meltingCalls noState lowestFrom lowest anyShorter notRising nearest floorDiv outside anyOutside startsWith field headerField sectionEnd rowCountAt gaugeCountAt sheetEnd recordField reachFields reachOf reachOn reaches rowStarts rowConcentrations gauges totalSegments segmentCount alongRiver courseOf reachAt ownGain gain flow discharge ad isLast adAbove adBelow eOf gOf rateOf numbers loadedSegment P N F R rowOf newStorage newSediment newFigures downward stepped segmentAt writeSegments figuresAt writeFigures unmarked walk startsLate rowFault gaugeFault flowFault faceFault sumFault sheetTests courseTests listTests loadTests loaded loadAnswer loadColumns blocksFault riverFault segmentFault figureFault startFault stateFault heldFault startTests startAnswer startState stepTests stepAnswer stepState reportTests reported reportAnswer bytes allBytes zeros noWork topOf sections hasFlowRows flowRowCountAt flowRowCount testFlows numbersFault numbersAt oldFault pairAt lastBegun flowInForce flowRowStart flowRowTop flowRowStarts flowRowTops flowRowFault snow melting
+melting-fed =
+    let lent = melting-lent in
+    Fed.more {call = start (meltingFor 0) (0 ∷ []) 3000} (λ t. lent .0)
+    (Fed.more {call = meltingStep 0 1} (λ t. lent .1)
+    (Fed.more {call = meltingStep 1 1} (λ t. lent .2)
+    (Fed.more {call = report (meltingFor 2) 2} (λ t. lent .3) Fed.none)))
+
+pub demand-3-met : Demand3Met
+unfolding meltingCalls
+demand-3-met =
+    let lent = melting-lent in
+    record {
+      accepted = lent .5;
+      fed = melting-fed;
+      says = λ claim.
+          claim melting 0 (reachOf (λ k. 0) ∷ []) (zeros 2) (loaded melting) (lent .4) (noState 2) (meltingFor 0) (0 ∷ []) 3000 meltingSteps (lent .5 .0) melting-fed;
+    }
+
+-- ---- demand 3: its conclusion
+
+module _ {k : ℕ} {x : Segment} {f : Figures} {q : ExactFigures} {xs : List Segment} {fs : List Figures} {qs : List ExactFigures} where
+  -- the first segment, and the others
+  first-near : Near k (x ∷ xs) (f ∷ fs) (q ∷ qs) → (Within k (f .c) (q .c)) × (Within k (f .z) (q .z)) × (Within (k * x .kd) (x .kd * f .w) (x .kd · q .w))
+  first-near (Near.cons c z w more) = (c, z, w)
+
+  others-near : Near k (x ∷ xs) (f ∷ fs) (q ∷ qs) → Near k xs fs qs
+  others-near (Near.cons c z w more) = more
+
+-- at literals
+by-figures : {k x n d : ℕ} {above : 0 < d} → T (leb (x * d) (n + k * d)) → T (leb n ((x + k) * d)) → Within k x (record { num = pos n; den = d; above = above })
+by-figures most least = record { most = leZ-yes most; least = leZ-yes least }
+
+pub near-bench : NearBench
+unfolding kd2 exactly segmentAt numbersAt
+near-bench = (
+  Near.cons (by-figures tt tt) (by-figures tt tt) (by-figures tt tt) (Near.cons (by-figures tt tt) (by-figures tt tt) (by-figures tt tt) Near.none),
+  λ n. first-near n .0 .most .le,
+  λ n. first-near n .0 .least .le,
+  λ n. first-near n .1 .most .le,
+  λ n. first-near n .1 .least .le,
+  λ n. first-near n .2 .most .le,
+  λ n. first-near n .2 .least .le,
+  λ n. first-near (others-near n) .0 .most .le,
+  λ n. first-near (others-near n) .2 .least .le,
+)
+
+module _ {fs gs : List ExactFigures} {before before′ : List (List ExactFigures)} where
+  -- the latest step, and those before
+  latest-same : SamePast (fs ∷ before) (gs ∷ before′) → SameFigures fs gs
+  latest-same (SamePast.cons same more) = same
+
+  before-same : SamePast (fs ∷ before) (gs ∷ before′) → SamePast before before′
+  before-same (SamePast.cons same more) = more
+
+as-many : {fs : List ExactFigures} {before : List (List ExactFigures)} → SamePast (fs ∷ before) [] → ⊥
+as-many = elim [ ]
+
+storage-same : {f g : ExactFigures} {fs gs : List ExactFigures} → SameFigures (f ∷ fs) (g ∷ gs) → Same (f .z) (g .z)
+storage-same (SameFigures.cons c z w more) = z
+
+pub same-past-bench : SamePastBench
+unfolding exactly halves
+same-past-bench =
+    let same = SameFigures.cons refl refl refl SameFigures.none in (
+      SamePast.cons same (SamePast.cons same SamePast.none),
+      λ s. differ (storage-same (latest-same s)),
+      λ s. differ (storage-same (latest-same (before-same s))),
+      λ s. as-many (before-same s),
+    )
+  where
+    differ : pos 4000 ≡ pos 4001 → ⊥
+    differ e = absurd (omega (arith, ap natAbs e))
+
+-- the first segment's e in a set of the step
+first-e : List Numbers → ℕ
+first-e [] = 0
+first-e (x ∷ xs) = x .e
+
+pub pair-bench : PairBench
+unfolding first-e accepts after run meltingFor meltingStep meltingSteps meltingCalls noState lowestFrom lowest anyShorter notRising nearest floorDiv outside anyOutside startsWith field headerField sectionEnd rowCountAt gaugeCountAt sheetEnd recordField reachFields reachOf reachOn reaches rowStarts rowConcentrations gauges totalSegments segmentCount alongRiver courseOf reachAt ownGain gain flow discharge ad isLast adAbove adBelow eOf gOf rateOf numbers loadedSegment P N F R rowOf newStorage newSediment newFigures downward stepped segmentAt writeSegments figuresAt writeFigures unmarked walk startsLate rowFault gaugeFault flowFault faceFault sumFault sheetTests courseTests listTests loadTests loaded loadAnswer loadColumns blocksFault riverFault segmentFault figureFault startFault stateFault heldFault startTests startAnswer startState stepTests stepAnswer stepState reportTests reported reportAnswer bytes allBytes zeros noWork topOf sections hasFlowRows flowRowCountAt flowRowCount testFlows numbersFault numbersAt oldFault pairAt lastBegun flowInForce flowRowStart flowRowTop flowRowStarts flowRowTops flowRowFault snow melting
+pair-bench = (
+  λ p. let e = ap first-e (p .before) in omega arith,
+  λ p. let e = ap (λ (xs : List Segment). first-e (map (λ x. x .numbers) xs)) (p .after .segments) in omega arith,
+)
+
+-- ---- several rivers: a pool with none open
+
+pub all-closed : NoneOpen allClosed
+unfolding allClosed
+all-closed = record { slots = refl; closed = λ i h. rw (getD-replicate 8 i vacant vacant h) refl }
+
+-- ---- the search
+
+-- two answers of different kinds are not the same
+differ : _≡_ {A = ℕ} 0 1 → ⊥
+differ e = absurd (omega arith)
+
+-- the figures of the bench
+abbrev figures : List ℕ
+figures = 5 ∷ 9 ∷ 2 ∷ 8 ∷ []
+
+module _ (highest : ℕ) where
+  abbrev tests : List Finding
+  tests = searchTests 3 figures (highest ∷ [])
+
+  -- 13 passes
+  long-enough : first tests ≡ passes
+  unfolding searchTests riverFault anyShorter blocksFault outside
+  long-enough = refl
+
+  -- an answer that is not refused is a finding
+  finding : {found : Option ℕ} → SearchAnswer 3 figures (highest ∷ []) 6 (accepted found) → Finds 3 figures (highest ∷ []) 6 found
+  finding {found} s =
+      let is : accepted found ≡ accepted (s .found) = s .is ∙ outcome-passes tests (s .found) long-enough in
+      let same : s .found ≡ found = cc in
+      rw same at (s .finds long-enough)
+
+  -- and a finding such an answer
+  answering : {found : Option ℕ} → Finds 3 figures (highest ∷ []) 6 found → SearchAnswer 3 figures (highest ∷ []) 6 (accepted found)
+  answering {found} finds = record { found = found; finds = λ e. finds; is = sym (outcome-passes tests found long-enough) }
+
+  -- the second segment alone is above
+  only-second : (i : ℕ) → Above 3 figures (highest ∷ []) 6 i → i ≡ 1
+  only-second zero above = absurd (omega (arith, above .segment))
+  only-second (suc zero) above = refl
+  only-second (suc (suc zero)) above = absurd (omega (arith, above .segment))
+  only-second (suc (suc (suc i))) above = absurd (omega (arith, above .inside))
+
+  second : (number : ℕ) → SearchAnswer 3 figures (highest ∷ []) 6 (accepted (some number)) → (number ≡ 2) × (6 < highest)
+  second number s =
+      let choice = finding s .choice number refl in
+      let is = only-second (choice .0) (choice .2) in
+      (choice .1 ∙ ap suc is, rw is at (choice .2 .block))
+
+-- where its block is above the limit it is in such a block
+second-above : Above 3 figures (9 ∷ []) 6 1
+second-above = record { inside = lit< tt; segment = lit< tt; block = lit< tt }
+
+pub search-answers-bench : SearchAnswersBench
+search-answers-bench = (
+  answering _ (finds-some refl second-above),
+  λ s. let q = second _ 1 s .0 in omega arith,
+  λ s. let q = second _ 3 s .0 in omega arith,
+  λ s. let q = second _ 4 s .0 in omega arith,
+  λ s. finding _ s .noneOnlyIf refl 1 second-above,
+  λ s. let is : refused 13 nothing ≡ accepted (s .found) = s .is ∙ outcome-passes (tests 9) (s .found) (long-enough 9) in differ cc,
+  answering _ (finds-none (λ i above. let q = only-second _ i above in absurd (omega (arith, rw q at (above .block))))),
+  λ s. let q = second _ 2 s .1 in omega arith,
+)
+
+-- no segment of the river is above 9
+clear-9 : Clear 3 figures 9
+clear-9 zero h = omega arith
+clear-9 (suc zero) h = omega arith
+clear-9 (suc (suc zero)) h = omega arith
+clear-9 (suc (suc (suc i))) h = absurd (omega arith)
+
+pub tells-bench : TellsBench
+tells-bench = (
+  record { notRefused = refl; noneIf = λ clear. absurd (let q = clear 1 (lit< tt) in omega arith); noneOnlyIf = λ e. absurd (differ cc) },
+  λ t. let q = t .noneOnlyIf refl 1 (lit< tt) in omega arith,
+  λ t. let q = t .notRefused in differ cc,
+  record { notRefused = refl; noneIf = λ clear. refl; noneOnlyIf = λ e. clear-9 },
+  λ t. let q = t .noneIf clear-9 in differ cc,
+)
+
+-- ---- the search: the premises
+
+-- the search that names the first segment, where this is above the limit in a block that is
+pub names-first : (tests : List Finding) (n : ℕ) (channel highest : List ℕ) (limit : ℕ) → first tests ≡ passes → Above n channel highest limit 0 →
+    Searches tests n channel highest limit (accepted (some 1))
+names-first tests n channel highest limit pass above =
+    record { found = some 1; finds = λ e. finds-some refl above; is = sym (outcome-passes tests (some 1) pass) }
+
+pub search-met : SearchMet
+unfolding leftSince searchTests highestBelow blockHighest startHighest stepHighest accepts after run meltingFor meltingStep meltingSteps meltingCalls noState lowestFrom lowest anyShorter notRising nearest floorDiv outside anyOutside startsWith field headerField sectionEnd rowCountAt gaugeCountAt sheetEnd recordField reachFields reachOf reachOn reaches rowStarts rowConcentrations gauges totalSegments segmentCount alongRiver courseOf reachAt ownGain gain flow discharge ad isLast adAbove adBelow eOf gOf rateOf numbers loadedSegment P N F R rowOf newStorage newSediment newFigures downward stepped segmentAt writeSegments figuresAt writeFigures unmarked walk startsLate rowFault gaugeFault flowFault faceFault sumFault sheetTests courseTests listTests loadTests loaded loadAnswer loadColumns blocksFault riverFault segmentFault figureFault startFault stateFault heldFault startTests startAnswer startState stepTests stepAnswer stepState reportTests reported reportAnswer bytes allBytes zeros noWork topOf sections hasFlowRows flowRowCountAt flowRowCount testFlows numbersFault numbersAt oldFault pairAt lastBegun flowInForce flowRowStart flowRowTop flowRowStarts flowRowTops flowRowFault snow melting
+search-met =
+    let answers = names-first _ 2 (run (noState 2) meltingCalls .channel) _ 100 refl (record { inside = lit< tt; segment = lit< tt; block = lit< tt }) in
+    record { left = _; leaves = refl; answers = answers; says = λ claim. claim (noState 2) meltingCalls _ refl 100 _ answers }
