@@ -144,7 +144,7 @@ fn move_slots(table: &mut Table)
 
 // The table of an accepted opening: the open rivers as they have moved, and the new one, of n segments, at place i.
 pub fn pack_table(table: &mut Table, i: usize, n: u32, u: u32)
-    requires { ⌜ (i < mostRivers) × (tableFault (tableIn (now table)) ≡ false) ⌝ }
+    requires { ⌜ tableFault (tableIn (now table)) ≡ false ⌝ }
     ensures { λ _. ⌜ tableIn (exit table) ≡ set (map (moved (tableIn (entry table))) (tableIn (entry table))) i (newSlot (tableIn (entry table)) n u) ⌝ }
 {
     let first = covered_below(*table, MOST_SEGMENTS);

@@ -8,7 +8,7 @@ use lib.ListN.{length, getD}
 use Rattle.lists.specs.Lists.{tab, over}
 use Rattle.lists.proofs.Tab.{length-tab, getD-tab, tab-cong, map-tab}
 use Rattle.lists.proofs.Over.{getD-over}
-use Rattle.model.specs.Ranges.{mostSegments, mostRivers}
+use Rattle.model.specs.Ranges.{mostSegments}
 use Rattle.model.specs.Sheet.{segmentCount}
 use Rattle.model.specs.Flow.{courseOf}
 use Rattle.model.specs.HalfStep.{Segment, loadedSegment}
@@ -64,7 +64,6 @@ module _ (sheet : List ℕ) (r records : ℕ) (x : Columns) (p : Pool) (number :
   pub record Ready : Type 0 where
     pub fits : Fit sheet r x
     pub from : 1 ≤ number
-    pub to : number ≤ mostRivers
     pub room : segmentCount sheet + openSegments (p .table) ≤ mostSegments
     pub table : tableFault (p .table) ≡ false
     pub channel : mostSegments ≤ length (p .channel)
@@ -80,7 +79,6 @@ module _ (sheet : List ℕ) (r records : ℕ) (x : Columns) (p : Pool) (number :
       record {
         fits = fit sheet r records x (passed .front) (passed .lists);
         from = room .0;
-        to = room .1;
         room = room .3;
         table = passed .table;
         channel = long .channel;

@@ -22,10 +22,9 @@ use Rattle.otis.specs.Says.{answerSays}
 use Rattle.otis.specs.Outcomes.{stateAfter, StartOutcome, StepOutcome}
 use Rattle.pool.specs.Left.{tableAfter}
 
--- where the pool's own tests pass: the number's place, and a stretch that every shared list has
+-- where the pool's own tests pass: a number, and a stretch that every shared list has
 pub record Stands (p : Pool) (number : ℕ) (x : Slot) : Type 0 where
   pub from : 1 ≤ number
-  pub place : number - 1 < mostRivers
   pub ends : endOf x ≤ mostSegments
   pub channel : mostSegments ≤ length (p .channel)
   pub storage : mostSegments ≤ length (p .storage)
@@ -39,7 +38,6 @@ stands p number x e pass =
     let place : number - 1 < mostRivers = omega (arith, n .0, n .1) in
     record {
       from = n .0;
-      place = place;
       ends = rw e (fault-apart (p .table) (n .3) .ends (number - 1) place (n .2));
       channel = long .channel;
       storage = long .storage;

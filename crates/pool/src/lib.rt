@@ -2,12 +2,12 @@
 ghost use mathlib.Core.Path.{_≡_};
 ghost use mathlib.Core.Bool.{false, _||_};
 ghost use mathlib.Core.List.{[], _∷_};
-ghost use Prim.Native.Nat.{_+_, _<_, _≤_};
+ghost use Prim.Native.Nat.{_+_, _≤_};
 ghost use lib.Dec.{ltb};
 ghost use lib.ListN.{length};
 ghost use Rattle.lists.specs.Lists.{anyUnder};
 ghost use Rattle.lists.specs.Lent.{entry, exit};
-ghost use Rattle.model.specs.Ranges.{outside, concentration, mostSegments, mostRivers};
+ghost use Rattle.model.specs.Ranges.{outside, concentration, mostSegments};
 ghost use Rattle.model.specs.Sheet.{segmentCount};
 ghost use Rattle.model.specs.Highest.{blockCount};
 ghost use Rattle.model.specs.Refusals.{passes, test, first};
@@ -68,7 +68,6 @@ fn pool_test(
 
 // Puts U and the count of an accepted start or step into the river's slot; of a refused one nothing.
 fn keep(answer: Answer, table: &mut Table, i: usize, x: Slot)
-    requires { ⌜ i < mostRivers ⌝ }
     ensures { λ _. ⌜ tableIn (exit table) ≡ tableAfter (answerSays answer) (tableIn (entry table)) i (slotSays x) ⌝ }
 {
     match answer {
@@ -294,7 +293,7 @@ fn fill_if(answer: Load, figures: &[u32], highest: &mut [u32])
 
 // The table after it.
 fn pack_table_if(answer: Load, table: &mut Table, river: u32, u: u32)
-    requires { ⌜ WhereLoaded (loadSays answer) (λ n. (1 ≤ river) × (river ≤ mostRivers) × (tableFault (tableIn (now table)) ≡ false)) ⌝ }
+    requires { ⌜ WhereLoaded (loadSays answer) (λ n. (1 ≤ river) × (tableFault (tableIn (now table)) ≡ false)) ⌝ }
     ensures { λ _. ⌜ tableIn (exit table) ≡ tableAfterOpen (loadSays answer) (tableIn (entry table)) river u ⌝ }
 {
     if let Load::Loaded(v) = answer {

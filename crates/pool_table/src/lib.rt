@@ -31,11 +31,22 @@ pub struct Slot {
     pub steps: u32,
 }
 
-// The slot at place i, which counts from 0.
+// A slot of zeros.
+const VACANT: Slot = Slot {
+    opened: 0,
+    first: 0,
+    segments: 0,
+    upstream: 0,
+    steps: 0,
+};
+
+// The slot at place i, which counts from 0. Past the last place it is vacant.
 pub fn taken(table: Table, i: usize) -> Slot
-    requires { ⌜ i < mostRivers ⌝ }
     ensures { λ r. ⌜ slotSays r ≡ slotAt (tableIn table) i ⌝ }
 {
+    if RIVERS <= i {
+        return VACANT;
+    }
     let at = WIDTH * i;
     Slot {
         opened: table[at],
@@ -60,12 +71,13 @@ fn with_slot(mut table: Table, i: usize, x: Slot) -> Table
     table
 }
 
-// This slot at place i of a table.
+// Puts this slot at place i of a table. Past the last place nothing is written.
 pub fn put(table: &mut Table, i: usize, x: Slot)
-    requires { ⌜ i < mostRivers ⌝ }
     ensures { λ _. ⌜ tableIn (exit table) ≡ set (tableIn (entry table)) i (slotSays x) ⌝ }
 {
-    *table = with_slot(*table, i, x);
+    if i < RIVERS {
+        *table = with_slot(*table, i, x);
+    }
 }
 
 // The slot with another U and count of steps done.
@@ -152,7 +164,6 @@ fn overlap_of(x: Slot, y: Slot) -> bool
 
 // A slot before place i overlaps this one.
 fn overlaps_before(table: Table, i: usize, x: Slot) -> bool
-    requires { ⌜ i < mostRivers ⌝ }
     ensures { λ r. ⌜ r ≡ anyBelow i (λ j. overlap (slotSays x) (slotAt (tableIn table) j)) ⌝ }
 {
     let mut j: usize = 0;
@@ -166,7 +177,6 @@ fn overlaps_before(table: Table, i: usize, x: Slot) -> bool
 }
 
 fn slot_fault(table: Table, i: usize) -> bool
-    requires { ⌜ i < mostRivers ⌝ }
     ensures { λ r. ⌜ r ≡ (passesEnd (slotAt (tableIn table) i) || anyBelow i (λ j. overlap (slotAt (tableIn table) i) (slotAt (tableIn table) j))) ⌝ }
 {
     let x = taken(table, i);

@@ -57,7 +57,6 @@ module _ (n : ℕ) (channel highest : List ℕ) (limit : ℕ) (fault : Bool)
 -- where an open river stands in the channel list
 pub record Stands (table : List Slot) (channel : List ℕ) (number : ℕ) (x : Slot) : Type 0 where
   pub from : 1 ≤ number
-  pub place : number - 1 < mostRivers
   pub ends : x .first + x .segments ≤ length channel
 
 module _ (table : List Slot) (channel : List ℕ) (number : ℕ) (highest : List ℕ) (limit : ℕ) where
@@ -77,7 +76,7 @@ module _ (table : List Slot) (channel : List ℕ) (number : ℕ) (highest : List
           let n = number-clear table number clear in
           let place : number - 1 < mostRivers = omega (arith, n .0, n .1) in
           let ends : x .first + x .segments ≤ mostSegments = rw is (fault-apart table (n .3) .ends (number - 1) place (n .2)) in
-          record { from = n .0; place = place; ends = omega (arith, ends, long) }
+          record { from = n .0; ends = omega (arith, ends, long) }
 
       -- the tests of the stretch alone decide
       pub on-stretch : (a : Outcome (Option ℕ)) → SearchAnswer (x .segments) (take (x .first + x .segments - x .first) (drop (x .first) channel)) highest limit a →

@@ -1,6 +1,5 @@
 -- `close` meets its contract.
 use mathlib.Core.Path.{sym, ap, _∙_}
-use native.Mathlib.Omega.{arith}
 use Rattle.model.specs.Pool.{closedSlot, closeFinding, closedTable}
 use Rattle.pool_laws.proofs.Tables.{number-clear}
 use Rattle.terms.specs.Lent.{tableIn}
@@ -15,12 +14,6 @@ returns c = let e = sym (c .before .number-fault .ensures) ∙ c .if1 .taken in 
 sub-at : tie.Need-sub-at
 sub-at c = number-clear (tableIn (c .before .before .before .args .table .now)) _ (sym (c .before .number-fault .ensures) ∙ c .if1 .left) .0
 
-taken-requires : tie.Need-taken-requires
-taken-requires c κs = let n = number-clear (tableIn (c .before .before .before .before .args .table .now)) _ (sym (c .before .before .number-fault .ensures) ∙ c .before .if1 .left) in omega (arith, n .0, n .1)
-
-put-requires : tie.Need-put-requires
-put-requires c κs = let n = number-clear (tableIn (c .before .before .before .before .before .before .args .table .now)) _ (sym (c .before .before .before .before .number-fault .ensures) ∙ c .before .before .before .if1 .left) in omega (arith, n .0, n .1)
-
 returns-2 : tie.Need-returns-2
 unfolding closedTable closeFinding
 returns-2 c =
@@ -28,4 +21,4 @@ returns-2 c =
     (rw e, rw (e, ← (ap closedSlot (c .before .before .taken .ensures))) (c .put .ensures))
 
 pub close-spec : {M : Type 1} → statement M
-close-spec = tie.close (tie.spec (λ c κs. search needs) returns sub-at taken-requires put-requires returns-2)
+close-spec = tie.close (tie.spec (λ c κs. search needs) returns sub-at (λ c κs. search needs) (λ c κs. search needs) returns-2)

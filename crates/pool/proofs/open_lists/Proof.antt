@@ -168,7 +168,7 @@ pack-table-if-requires c κs =
     let l = starts-5 c in
     let d = tested (written l .before) in
     let s = entry (d .before) in
-    where-loaded _ _ _ _ (written l .write .ensures .0) (λ e. let all = ready _ _ _ (lent s) (shared s) _ (s .args .highest .now) _ _ (found d) e in (all .from, all .to, all .table))
+    where-loaded _ _ _ _ (written l .write .ensures .0) (λ e. let all = ready _ _ _ (lent s) (shared s) _ (s .args .highest .now) _ _ (found d) e in (all .from, all .table))
 
 returns : tie.Need-returns
 returns c =

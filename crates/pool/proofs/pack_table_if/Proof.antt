@@ -1,5 +1,4 @@
 -- `pack_table_if` meets its contract.
-use native.Mathlib.Omega.{arith}
 use borrow.Author.Needs.{needs}
 use Rattle.pool.proofs.pack_table_if.Statement.{statement}
 use Rattle.pool.proofs.pack_table_if.Tie as tie
@@ -8,7 +7,7 @@ sub-pack-table : tie.Need-sub-pack-table
 sub-pack-table c = (rw (c .before .before .answer .given .1) at (c .before .before .before .before .pre)) .0
 
 pack-table-requires : tie.Need-pack-table-requires
-pack-table-requires c κs = let h = rw (c .before .before .answer .given .1) at (c .before .before .before .before .pre) in (omega (arith, h .0, h .1), h .2)
+pack-table-requires c κs = let h = rw (c .before .before .answer .given .1) at (c .before .before .before .before .pre) in h .1
 
 returns : tie.Need-returns
 returns c = rw (c .before .before .before .answer .given .1) (c .pack-table .ensures)

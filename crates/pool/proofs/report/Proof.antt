@@ -40,9 +40,6 @@ returns c =
 sub-taken : tie.Need-sub-taken
 sub-taken c = named (c .before) .from
 
-taken-requires : tie.Need-taken-requires
-taken-requires c κs = named (c .before) .place
-
 part-report-end : tie.Need-part-report-end
 part-report-end c = let s = at (c .before .before) in omega (arith, s .ends, s .channel)
 
@@ -62,6 +59,6 @@ pub report-spec : {M : Type 1} → statement M
 report-spec =
     tie.close
     (tie.spec
-    (λ c κs. search needs) (λ c. search needs) returns (λ c. search needs) sub-taken taken-requires (λ c. search needs) (λ c. search needs) (λ c. search needs)
+    (λ c κs. search needs) (λ c. search needs) returns (λ c. search needs) sub-taken (λ c κs. search needs) (λ c. search needs) (λ c. search needs) (λ c. search needs)
     (λ c. search needs) (λ c. search needs) (λ c. search needs) part-report-end (λ c. search needs) (λ c. search needs) (λ c. search needs) part-report-end-2 (λ c. search needs) (λ c. search needs) (λ c. search needs) part-report-end-3 (λ c κs. search needs)
     returns-2)

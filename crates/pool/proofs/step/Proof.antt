@@ -59,9 +59,6 @@ returns c =
 sub-at : tie.Need-sub-at
 sub-at c = named c .from
 
-taken-requires : tie.Need-taken-requires
-taken-requires c κs = named (c .before) .place
-
 part-step-end : tie.Need-part-step-end
 part-step-end c = let s = at (c .before .before) in omega (arith, s .ends, s .channel)
 
@@ -70,9 +67,6 @@ part-step-end-2 c = let s = at (c .before .before .before) in omega (arith, s .e
 
 part-step-end-3 : tie.Need-part-step-end-3
 part-step-end-3 c = let s = at (c .before .before .before .before) in omega (arith, s .ends, s .sediment)
-
-keep-requires : tie.Need-keep-requires
-keep-requires c κs = at (slot (stepped c)) .place
 
 returns-2 : tie.Need-returns-2
 returns-2 c =
@@ -94,6 +88,6 @@ pub step-spec : {M : Type 1} → statement M
 step-spec =
     tie.close
     (tie.spec
-    (λ c κs. search needs) (λ c. search needs) (λ c. search needs) (λ c. search needs) (λ c. search needs) returns (λ c. search needs) sub-at taken-requires (λ c. search needs) (λ c. search needs) (λ c. search needs)
+    (λ c κs. search needs) (λ c. search needs) (λ c. search needs) (λ c. search needs) (λ c. search needs) returns (λ c. search needs) sub-at (λ c κs. search needs) (λ c. search needs) (λ c. search needs) (λ c. search needs)
     (λ c. search needs) (λ c. search needs) (λ c. search needs) part-step-end (λ c. search needs) (λ c. search needs) (λ c. search needs) part-step-end-2 (λ c. search needs) (λ c. search needs) (λ c. search needs) part-step-end-3 (λ c κs. search needs)
-    keep-requires (λ c. search needs) (λ c. search needs) (λ c. search needs) (λ c. search needs) (λ c. search needs) (λ c. search needs) returns-2)
+    (λ c κs. search needs) (λ c. search needs) (λ c. search needs) (λ c. search needs) (λ c. search needs) (λ c. search needs) (λ c. search needs) returns-2)

@@ -1,5 +1,4 @@
 -- `number_fault` meets its contract.
-use native.Mathlib.Omega.{arith}
 use borrow.Author.Tests.{lt-ltb, le-ltb}
 use Rattle.model.specs.Ranges.{outside}
 use Rattle.model.specs.Pool.{numberFault}
@@ -15,9 +14,6 @@ returns-2 : tie.Need-returns-2
 unfolding numberFault outside
 returns-2 c = rw (le-ltb _ _ (c .before .if1 .left), lt-ltb _ _ (c .if2 .taken))
 
-taken-requires : tie.Need-taken-requires
-taken-requires c κs = omega (arith, c .if2 .left, c .before .if1 .left)
-
 returns-3 : tie.Need-returns-3
 unfolding numberFault outside
 returns-3 c = rw (le-ltb _ _ (c .before .before .before .before .before .if1 .left), le-ltb _ _ (c .before .before .before .before .if2 .left), ← (c .before .before .before .taken .ensures), ← (c .before .before .is-open .ensures), c .before .if3 .taken) (c .table-fault .ensures)
@@ -32,6 +28,6 @@ number-fault-spec =
     (tie.spec
     returns
     returns-2 (λ c. search needs)
-    taken-requires (λ c κs. search needs) (λ c κs. search needs)
+    (λ c κs. search needs) (λ c κs. search needs) (λ c κs. search needs)
     returns-3
     returns-4)

@@ -15,9 +15,6 @@ returns-2 : tie.Need-returns-2
 unfolding roomFault outside
 returns-2 c = rw (le-ltb _ _ (c .before .if1 .left), lt-ltb _ _ (c .if2 .taken))
 
-taken-requires : tie.Need-taken-requires
-taken-requires c κs = omega (arith, c .if2 .left, c .before .if1 .left)
-
 returns-3 : tie.Need-returns-3
 unfolding roomFault outside
 returns-3 c = rw (le-ltb _ _ (c .before .before .before .before .if1 .left), le-ltb _ _ (c .before .before .before .if2 .left), ← (c .before .before .taken .ensures), ← (c .before .is-open .ensures), c .if3 .taken)
@@ -35,7 +32,7 @@ room-fault-spec =
     (tie.spec
     returns
     returns-2 (λ c. search needs)
-    taken-requires (λ c κs. search needs)
+    (λ c κs. search needs) (λ c κs. search needs)
     returns-3 (λ c. search needs) (λ c κs. search needs)
     add-result
     returns-4)

@@ -27,7 +27,7 @@ slot c = c .before .before
 abbrev table : tie.Start → List Slot
 table s = tableIn (s .args .table .now)
 
--- a slot that is the named river's has its place in the table, and its stretch
+-- a slot that is the named river's has its stretch
 standing : (c : tie.Else2) (x : Slot) → x ≡ slotOf (table (entry c)) (entry c .args .river) →
     Stands (table (entry c)) (entry c .args .channel .now) (entry c .args .river) x
 standing c x e =
@@ -36,9 +36,6 @@ standing c x e =
 
 sub-taken : tie.Need-sub-taken
 sub-taken c = standing (c .before) _ refl .from
-
-taken-requires : tie.Need-taken-requires
-taken-requires c κs = standing (c .before) _ refl .place
 
 part-alone-end : tie.Need-part-alone-end
 part-alone-end c = let t = slot c in standing (t .before .before) (slotSays (t .taken .result)) (t .taken .ensures) .ends
@@ -53,5 +50,5 @@ returns-3 c =
 pub on-pool-spec : {M : Type 1} → statement M
 on-pool-spec =
     tie.close
-    (tie.spec (λ c κs. search needs) returns (λ c. search needs) returns-2 sub-taken taken-requires (λ c. search needs) (λ c. search needs) (λ c. search needs)
+    (tie.spec (λ c κs. search needs) returns (λ c. search needs) returns-2 sub-taken (λ c κs. search needs) (λ c. search needs) (λ c. search needs) (λ c. search needs)
     (λ c. search needs) (λ c. search needs) (λ c. search needs) part-alone-end (λ c κs. search needs) returns-3)
