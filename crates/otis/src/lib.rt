@@ -2,9 +2,9 @@
 ghost use mathlib.Core.Path.{_≡_};
 ghost use mathlib.Core.Bool.{_||_};
 ghost use mathlib.Core.List.{[], _∷_, map};
-ghost use Prim.Native.Nat.{ℕ};
+ghost use Prim.Native.Nat.{ℕ, _*_, _<_};
 ghost use lib.Dec.{leb, ltb};
-ghost use lib.ListN.{length};
+ghost use lib.ListN.{length, getD};
 ghost use Rattle.lists.specs.Lists.{anyUnder};
 ghost use Rattle.model.specs.Highest.{blockCount};
 ghost use Rattle.model.specs.State.{setLists};
@@ -21,6 +21,7 @@ use calltests::state_test;
 use limits::Range;
 use limits::outside;
 use lists::any_short;
+use lists::copy;
 use terms::Finding;
 use terms::Fixed;
 use terms::KD;
@@ -28,8 +29,6 @@ use terms::Place;
 use terms::START;
 use terms::Set;
 use terms::set_short;
-
-pub mod entries;
 
 // The state's U and its count of steps done; the three lists of figures are lent.
 pub struct River {
@@ -95,9 +94,9 @@ impl River {
             Finding::Passes => {
                 let count = n as usize;
                 let figures = fixed[START];
-                entries::copy(count, figures, &mut channel[..]);
-                entries::copy(count, figures, &mut storage[..]);
-                entries::copy(count, figures, &mut sediment[..]);
+                copy(count, figures, &mut channel[..]);
+                copy(count, figures, &mut storage[..]);
+                copy(count, figures, &mut sediment[..]);
                 blocks::fill(count, &channel[..], &mut highest[..]);
                 Answer::Accepted(River {
                     upstream: u,
@@ -205,10 +204,26 @@ impl River {
         match found {
             Finding::Passes => {
                 let i = segment as usize - 1;
-                Report::Reported(entries::at(i, fixed[KD], channel, storage, sediment))
+                Report::Reported(figures_at(i, fixed[KD], channel, storage, sediment))
             }
             Finding::Fails(number, place) => Report::Refused(number, place),
         }
+    }
+}
+
+// The figures of the segment at i, which counts from 0.
+fn figures_at(i: usize, kd: &[u32], channel: &[u32], storage: &[u32], sediment: &[u32]) -> Figures
+    requires { ⌜ (i < length (now kd)) × (i < length (now channel)) × (i < length (now storage)) × (i < length (now sediment)) ⌝ }
+    ensures { λ r. ⌜ r ≡ record {
+      channel = getD (entry channel) i 0;
+      storage = getD (entry storage) i 0;
+      sediment = getD (entry kd) i 0 * getD (entry sediment) i 0;
+    } ⌝ }
+{
+    Figures {
+        channel: channel[i],
+        storage: storage[i],
+        sediment: rounding::product(kd[i], sediment[i]),
     }
 }
 

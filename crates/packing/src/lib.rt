@@ -13,7 +13,7 @@ ghost use Rattle.terms.specs.Lent.{tableIn};
 ghost use Rattle.pool_table.specs.Says.{slotSays};
 use limits::MOST_SEGMENTS;
 use limits::RIVERS;
-use otis::entries::copy;
+use lists::copy;
 use pool_table::Slot;
 use pool_table::Table;
 use pool_table::end_of;

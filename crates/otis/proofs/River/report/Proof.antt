@@ -9,8 +9,8 @@ use Rattle.otis.proofs.River.report.Tie as tie
 sub-i : tie.Need-sub-i
 sub-i c = let d = c .before .before in report-reads _ _ _ _ _ (d .before .outside .ensures) (sym (d .state-test .ensures) ∙ ap findingSays (c .enum-told .given .1)) .from
 
-at-requires : tie.Need-at-requires
-at-requires c κs =
+figures-at-requires : tie.Need-figures-at-requires
+figures-at-requires c κs =
     let d = c .before .before .before in
     let r = report-reads _ _ _ _ _ (d .before .outside .ensures) (sym (d .state-test .ensures) ∙ ap findingSays (c .before .enum-told .given .1)) in
     (r .kd, r .channel, r .storage, r .sediment)
@@ -18,7 +18,7 @@ at-requires c κs =
 returns : tie.Need-returns
 returns c =
     let d = c .before .before .before .before in
-    report-accepted _ _ _ _ _ (d .before .outside .ensures) (sym (d .state-test .ensures) ∙ ap findingSays (c .before .before .enum-told .given .1)) _ (c .at .ensures)
+    report-accepted _ _ _ _ _ (d .before .outside .ensures) (sym (d .state-test .ensures) ∙ ap findingSays (c .before .before .enum-told .given .1)) _ (c .figures-at .ensures)
 
 returns-2 : tie.Need-returns-2
 returns-2 c =
@@ -34,7 +34,7 @@ report-spec =
     (λ c. search needs)
     sub-i
     (λ c. search needs)
-    at-requires
+    figures-at-requires
     (λ c. search needs)
     returns
     returns-2)

@@ -1,12 +1,12 @@
--- `entries::copy` meets its contract. The loop's invariant: the first i entries are written.
+-- `copy` meets its contract. The loop's invariant: the first i entries are written.
 use Prim.Native.Nat.{_-_, _≤_}
 use native.Mathlib.Omega.{arith}
 use mathlib.Core.Path.{refl}
 use borrow.Author.Needs.{needs}
 use lib.ListN.{getD}
 use Rattle.lists.proofs.Over.{Filling, filling-start, filling-turn, filling-end}
-use Rattle.otis.proofs.entries.copy.Statement.{statement}
-use Rattle.otis.proofs.entries.copy.Tie as tie
+use Rattle.lists.proofs.copy.Statement.{statement}
+use Rattle.lists.proofs.copy.Tie as tie
 
 abbrev Inv-loop : tie.InvT-loop
 Inv-loop n from to₀ i₀ to i = (i ≤ n) × Filling (λ k. getD from k 0) to₀ i to

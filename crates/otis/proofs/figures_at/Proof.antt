@@ -1,13 +1,13 @@
--- `entries::at` meets its contract.
+-- `figures_at` meets its contract.
 use borrow.Author.Needs.{needs}
-use Rattle.otis.proofs.entries.at.Statement.{statement}
-use Rattle.otis.proofs.entries.at.Tie as tie
+use Rattle.otis.proofs.figures_at.Statement.{statement}
+use Rattle.otis.proofs.figures_at.Tie as tie
 
 returns : tie.Need-returns
 returns c = rw (c .product .ensures)
 
-pub at-spec : {M : Type 1} → statement M
-at-spec =
+pub figures-at-spec : {M : Type 1} → statement M
+figures-at-spec =
     tie.close
     (tie.spec
     (λ c. search needs)
