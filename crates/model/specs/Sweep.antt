@@ -14,9 +14,17 @@ P x f = nearest (storageRight x f) (S + sumV (x .new))
 unfoldable pub N : Pair → Figures → ℕ
 N x f = nearest (sedimentRight x f) (S + x .new .h)
 
+-- what storage adds to F, "a(S+ks+m)/(S+V)"
+abbrev pub storageQuotient : Numbers → ℕ
+storageQuotient n = nearest (n .a * (S + n .ks + n .m)) (S + sumV n)
+
+-- what sediment adds, "sS/(S+h)"
+abbrev pub sedimentQuotient : Numbers → ℕ
+sedimentQuotient n = nearest (n .s * S) (S + n .h)
+
 -- "F = S+e+g+l+k + a(S+ks+m)/(S+V) + sS/(S+h), its two quotients divided singly", of the new numbers
 unfoldable pub F : Numbers → ℕ
-F n = S + n .e + n .g + n .l + n .k + nearest (n .a * (S + n .ks + n .m)) (S + sumV n) + nearest (n .s * S) (S + n .h)
+F n = S + n .e + n .g + n .l + n .k + storageQuotient n + sedimentQuotient n
 
 -- "R is the channel's right side plus aP + sN"; "In R, aP, sN and eU' take the new numbers", where "plus eU' in segment 1" is `yNumerator`'s
 unfoldable pub R : Pair → (above below : ℕ) → Figures → ℕ

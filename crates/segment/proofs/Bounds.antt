@@ -6,10 +6,10 @@ use Rattle.rounding.specs.Nearest.{S}
 use Rattle.model.specs.Ranges.{highest}
 use Rattle.model.specs.HalfStep.{Numbers}
 use Rattle.model.specs.Equations.{Figures, Pair, channelRight, storageRight, sedimentRight}
-use Rattle.model.specs.Sweep.{P, N, rowOf, newFigures}
+use Rattle.model.specs.Sweep.{P, N, storageQuotient, sedimentQuotient, rowOf, newFigures}
 use Rattle.sweep_laws.specs.Accepted.{Sums, AtMost}
 use Rattle.sweep_laws.specs.Stable.{Fit}
-use Rattle.sweep_laws.proofs.Accepted.{storageQuotient, sedimentQuotient, storage-quotient, sediment-quotient, channel-most, storage-most, sediment-most, P-most, N-most, figures-most, row-fit}
+use Rattle.sweep_laws.proofs.Accepted.{storage-quotient, sediment-quotient, channel-most, storage-most, sediment-most, P-most, N-most, figures-most, row-fit}
 use Rattle.segment.specs.Ready.{word, FiguresReady, RowReady}
 
 module _ (x : Pair) (f : Figures) where

@@ -3,8 +3,8 @@ ghost use mathlib.Core.Path.{_≡_};
 ghost use Prim.Native.Nat.{_+_, _*_, _≤_};
 ghost use Rattle.rounding.specs.Nearest.{S, nearest};
 ghost use Rattle.model.specs.Ranges.{highest};
-ghost use Rattle.model.specs.Equations.{sumV, channelRight, storageRight, sedimentRight};
-ghost use Rattle.model.specs.Sweep.{P, N, F, R, rowOf, under, pass, clamp, newStorage, newSediment, newFigures};
+ghost use Rattle.model.specs.Equations.{channelRight, storageRight, sedimentRight};
+ghost use Rattle.model.specs.Sweep.{P, N, storageQuotient, sedimentQuotient, F, R, rowOf, under, pass, clamp, newStorage, newSediment, newFigures};
 ghost use Rattle.terms.specs.Says.{numbersSay};
 ghost use Rattle.sweep_laws.specs.Accepted.{Sums};
 ghost use Rattle.segment.specs.Says.{pair, pairSays, figuresSay, passedSays};
@@ -28,8 +28,8 @@ pub struct Figures {
     pub w: u32,
 }
 
-// What the downward pass leaves of a segment: p and y. Beside them are F's two quotients, of which nothing is promised: the segment below
-// tries them, as it mostly has the same numbers.
+// What the downward pass leaves of a segment: p and y. Beside them are F's two quotients: the segment below tries them, as it mostly has the
+// same numbers.
 pub struct Passed {
     pub p: u64,
     pub y: u64,
@@ -105,8 +105,7 @@ fn n_of(x: Pair, f: Figures) -> u64
 // `quotient` may be the one that F has, and is trusted for nothing.
 fn storage_terms(x: Pair, f: Figures, quotient: u64) -> Terms
     requires { ⌜ FiguresReady (pairSays x) (figuresSay f) ⌝ }
-    ensures { λ v. ⌜ (v .f ≡ nearest (x .new .a * (S + x .new .ks + x .new .m)) (S + sumV (numbersSay (x .new))))
-        × (v .r ≡ x .new .a * P (pairSays x) (figuresSay f)) ⌝ }
+    ensures { λ v. ⌜ (v .f ≡ storageQuotient (numbersSay (x .new))) × (v .r ≡ x .new .a * P (pairSays x) (figuresSay f)) ⌝ }
 {
     if x.new.a == 0 {
         return Terms { f: 0, r: 0 };
@@ -125,7 +124,7 @@ fn storage_terms(x: Pair, f: Figures, quotient: u64) -> Terms
 // What sediment adds to a row: sS/(S+h) to F and sN to R, with the new numbers; nothing without sorption. `quotient` is as above.
 fn sediment_terms(x: Pair, f: Figures, quotient: u64) -> Terms
     requires { ⌜ FiguresReady (pairSays x) (figuresSay f) ⌝ }
-    ensures { λ v. ⌜ (v .f ≡ nearest (x .new .s * S) (S + x .new .h)) × (v .r ≡ x .new .s * N (pairSays x) (figuresSay f)) ⌝ }
+    ensures { λ v. ⌜ (v .f ≡ sedimentQuotient (numbersSay (x .new))) × (v .r ≡ x .new .s * N (pairSays x) (figuresSay f)) ⌝ }
 {
     if x.new.s == 0 {
         return Terms { f: 0, r: 0 };
@@ -141,7 +140,8 @@ fn sediment_terms(x: Pair, f: Figures, quotient: u64) -> Terms
 // quotients are tried from those of the segment above.
 fn row_of(x: Pair, above: u32, below: u32, f: Figures, d: Passed) -> Row
     requires { ⌜ RowReady (pairSays x) (figuresSay f) above below ⌝ }
-    ensures { λ v. ⌜ (v .f ≡ F (numbersSay (x .new))) × (v .r ≡ R (pairSays x) above below (figuresSay f)) ⌝ }
+    ensures { λ v. ⌜ (v .f ≡ F (numbersSay (x .new))) × (v .r ≡ R (pairSays x) above below (figuresSay f))
+        × (v .storage ≡ storageQuotient (numbersSay (x .new))) × (v .sediment ≡ sedimentQuotient (numbersSay (x .new))) ⌝ }
 {
     let right = channel_right(x.old, x.new, x.cl, above, below, f);
     let storage = storage_terms(x, f, d.storage);
@@ -165,7 +165,7 @@ fn row_of(x: Pair, above: u32, below: u32, f: Figures, d: Passed) -> Row
 // nothing. F's quotients are handed on.
 fn pass(f: u64, r: u64, e: u32, g: u32, storage: u64, sediment: u64, d: Passed, p: u64) -> Passed
     requires { ⌜ PassReady (row f r e g) (passedSays d) ⌝ }
-    ensures { λ v. ⌜ passedSays v ≡ pass (under (passedSays d)) (row f r e g) ⌝ }
+    ensures { λ v. ⌜ (passedSays v ≡ pass (under (passedSays d)) (row f r e g)) × (v .storage ≡ storage) × (v .sediment ≡ sediment) ⌝ }
 {
     let h = f - rounding::nearest((e as u64) * d.p, WHOLE);
     Passed {
@@ -176,10 +176,12 @@ fn pass(f: u64, r: u64, e: u32, g: u32, storage: u64, sediment: u64, d: Passed, 
     }
 }
 
-// p and y of a segment, from p and y above. `p` may be the new p; it and the quotients above are trusted for nothing.
+// p and y of a segment, from p and y above, and F's two quotients of its new numbers. `p` may be the new p; it and the quotients above are
+// trusted for nothing.
 pub fn passed_down(x: Pair, above: u32, below: u32, f: Figures, d: Passed, p: u64) -> Passed
     requires { ⌜ SegmentReady (pairSays x) (figuresSay f) above below (passedSays d) ⌝ }
-    ensures { λ v. ⌜ passedSays v ≡ pass (under (passedSays d)) (rowOf (pairSays x) above below (figuresSay f)) ⌝ }
+    ensures { λ v. ⌜ (passedSays v ≡ pass (under (passedSays d)) (rowOf (pairSays x) above below (figuresSay f)))
+        × (v .storage ≡ storageQuotient (numbersSay (x .new))) × (v .sediment ≡ sedimentQuotient (numbersSay (x .new))) ⌝ }
 {
     let row = row_of(x, above, below, f, d);
     pass(

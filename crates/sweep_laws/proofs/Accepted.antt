@@ -3,12 +3,12 @@ use mathlib.Core.List.{List, [], _∷_}
 use Prim.Native.Nat.{ℕ, _+_, _-_, _*_, _<_, _≤_, zero-le}
 use native.Mathlib.Nat.{mul-le-mul-left, mul-le-mul-right, le-of-mul-le-mul-left, min-le-right}
 use native.Mathlib.Omega.{arith}
-use Rattle.rounding.specs.Nearest.{S, nearest}
+use Rattle.rounding.specs.Nearest.{S}
 use Rattle.rounding.proofs.Laws.{Rounds, rounds, by, nearest-le}
 use Rattle.model.specs.Ranges.{highest}
 use Rattle.model.specs.HalfStep.{Numbers}
 use Rattle.model.specs.Equations.{Figures, Pair, sumT, sumV, channelRight, storageRight, sedimentRight}
-use Rattle.model.specs.Sweep.{P, N, F, R, rowOf, rows, below, clamp, newStorage, newSediment, newFigures, finish, stepped}
+use Rattle.model.specs.Sweep.{P, N, storageQuotient, sedimentQuotient, F, R, rowOf, rows, below, clamp, newStorage, newSediment, newFigures, finish, stepped}
 use Rattle.sweep_laws.specs.Accepted.{Accepted, AtMost}
 use Rattle.sweep_laws.specs.Stable.{Fit}
 
@@ -51,14 +51,6 @@ module _ (x : Pair) (B : ℕ) (f : Figures) (most : AtMost B f) where
       omega (arith, mul-le-mul-left (S - x .old .h) (most .w), mul-le-mul-left (x .old .h) (most .c), mul-le-mul-right B sum)
 
 -- ---- the two quotients of F
-
--- a(S+ks+m)/(S+V)
-abbrev pub storageQuotient : Numbers → ℕ
-storageQuotient n = nearest (n .a * (S + n .ks + n .m)) (S + sumV n)
-
--- sS/(S+h)
-abbrev pub sedimentQuotient : Numbers → ℕ
-sedimentQuotient n = nearest (n .s * S) (S + n .h)
 
 pub storage-quotient : (n : Numbers) → storageQuotient n ≤ n .a
 storage-quotient n = nearest-le _ _ (n .a) (omega arith) (omega arith)

@@ -1,4 +1,5 @@
 -- `segment::pass` meets its contract: the row is fit, so that H is at least one whole, and at most two.
+use mathlib.Core.Path.{refl}
 use native.Mathlib.Omega.{arith}
 use Rattle.sweep_laws.proofs.Passes.{row-fits}
 use borrow.Author.Needs.{needs}
@@ -27,7 +28,8 @@ nearest-requires-2 : tie.Need-nearest-requires-2
 nearest-requires-2 c κs = omega (arith, row-fits _ _ (c .before .before .before .before .pre .fit) (c .before .before .before .before .pre .stable), c .before .before .nearest .ensures)
 
 returns : tie.Need-returns
-returns c = rw (c .nearest2 .ensures, c .before .before .nearest-tried .ensures, c .before .before .before .nearest .ensures)
+returns c =
+    (rw (c .nearest2 .ensures, c .before .before .nearest-tried .ensures, c .before .before .before .nearest .ensures), refl, refl)
 
 pub pass-spec : {M : Type 1} → statement M
 pass-spec =

@@ -1,4 +1,5 @@
 -- `segment::passed_down` meets its contract: F and R make the row, and the row of an accepted segment is fit.
+use mathlib.Core.Path.{_∙_}
 use Rattle.model.specs.Sweep.{rowOf}
 use Rattle.segment.proofs.Bounds.{ready-fit}
 use borrow.Author.Needs.{needs}
@@ -12,7 +13,10 @@ pass-requires c κs =
 
 returns : tie.Need-returns
 unfolding rowOf
-returns c = rw (← (c .before .row-of .ensures .0), ← (c .before .row-of .ensures .1)) (c .pass .ensures)
+returns c =
+    let row = c .before .row-of .ensures in
+    let passed = c .pass .ensures in
+    (rw (← (row .0), ← (row .1)) (passed .0), passed .1 ∙ row .2, passed .2 ∙ row .3)
 
 pub passed-down-spec : {M : Type 1} → statement M
 passed-down-spec = tie.close (tie.spec (λ c κs. search needs) pass-requires returns)

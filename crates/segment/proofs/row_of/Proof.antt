@@ -32,7 +32,7 @@ unfolding F R
 returns c =
     let storage = c .before .before .before .before .before .before .before .before .before .before .storage-terms .ensures in
     let sediment = c .before .before .before .before .before .before .before .before .before .sediment-terms .ensures in
-    rw (c .before .before .before .before .before .before .before .before .before .before .before .channel-right .ensures .0, storage .0, storage .1, sediment .0, sediment .1) (refl, refl)
+    rw (c .before .before .before .before .before .before .before .before .before .before .before .channel-right .ensures .0, storage .0, storage .1, sediment .0, sediment .1) (refl, refl, refl, refl)
 
 pub row-of-spec : {M : Type 1} → statement M
 row-of-spec =

@@ -37,7 +37,7 @@ passed-down-requires c κs =
 loop-again : tie.Need-loop-again Inv-loop μ-loop
 loop-again c =
     let t = c .before .before .before .before .before .before .before in
-    down-turn (start t .pre) (t .loop-test .taken) (t .before .loop .inv) (c .before .before .before .before .before .before .pair-at .ensures) (c .before .before .before .before .channel-or-0 .ensures) (c .passed-down .ensures)
+    down-turn (start t .pre) (t .loop-test .taken) (t .before .loop .inv) (c .before .before .before .before .before .before .pair-at .ensures) (c .before .before .before .before .channel-or-0 .ensures) (c .passed-down .ensures .0)
 
 returns : tie.Need-returns Inv-loop μ-loop
 returns c = down-end (entry (c .before .before) .pre) (c .loop-test .left) (c .before .loop .inv)
