@@ -1,14 +1,15 @@
 -- Laws of `Put`: nothing put, one text put behind another, and a line that has room.
 use mathlib.Core.Path.{_≡_, refl, sym, ap, _∙_}
-use mathlib.Core.Bool.{Bool, true, false, not, _||_}
+use mathlib.Core.Bool.{Bool, true, false, cond, not, _&&_, _||_}
 use mathlib.Core.List.{List, [], _∷_, _++_}
-use Prim.Native.Nat.{ℕ, suc, _+_, _-_, _<_, _≤_, min}
+use Prim.Native.Nat.{ℕ, suc, _+_, _-_, _<_, _≤_, zero-le, min}
 use native.Mathlib.Omega.{arith}
-use lib.Dec.{leb}
-use borrow.Author.Tests.{leb-true, leb-false}
+use lib.Dec.{leb, ltb, eqb}
+use borrow.Author.Tests.{leb-true, leb-false, ltb-false, lt-ltb, ne-eqb}
 use lib.ListN.{length, length-append}
 use lib.Seq.{sets, set-out, length-sets}
-use Rattle.output.specs.Outcomes.{Put, Flushed, Room, PutLine, longest}
+use Rattle.lists.proofs.Shorter.{neither}
+use Rattle.output.specs.Outcomes.{Put, due, Flushed, Room, PutLine, longest}
 use Rattle.output.specs.declared.Output.{Output}
 
 -- past the end nothing is stored
@@ -43,15 +44,36 @@ put-then {s} {t} {o} {r} {q} {b} {b′} {b″} x y =
           ∙ sets-behind t (sets b (o .used) s) (o .used) (length s) ∙ sym (sets-append s t b (o .used)));
     }
 
+and-false : (x : Bool) → (x && false) ≡ false
+and-false true = refl
+and-false false = refl
+
 or-true : (x : Bool) → (x || true) ≡ true
 or-true true = refl
 or-true false = refl
 
--- a write that was made only where the buffer has the bytes used
-pub flushed : {o r : Output} {b : List ℕ} (written : Bool) → (r .used ≡ 0) × (r .failed ≡ (o .failed || not written)) →
-    (length b < o .used → written ≡ false) → Flushed o b r
-flushed {o} {r} {b} written e short =
-    record { used = e .0; failed = λ h. e .1 ∙ rw h; lost = λ h. e .1 ∙ rw (short h) (or-true (o .failed)) }
+-- no more is due than the buffer has
+pub due-within : (o : Output) (n : ℕ) → due o n .bytes ≤ n
+unfolding due
+due-within o n = cases (o .failed || ltb n (o .used)) refl
+  where
+    cases : (t : Bool) → (o .failed || ltb n (o .used)) ≡ t → cond t 0 (o .used) ≤ n
+    cases true e = zero-le
+    cases false e = ltb-false n (o .used) (neither (o .failed) (ltb n (o .used)) e .1)
+
+-- nothing of what the buffer has not
+due-lost : (o : Output) (n : ℕ) → n < o .used → due o n .bytes ≡ 0
+unfolding due
+due-lost o n h = rw (lt-ltb n (o .used) h, or-true (o .failed))
+
+-- the write that is due, made or not: it has all the bytes used, or they are lost
+pub flushed : {o r : Output} {b : List ℕ} (written : Bool) →
+    (r .used ≡ 0) × (r .failed ≡ (o .failed || not (written && eqb (due o (length b) .bytes) (o .used)))) → Flushed o b r
+flushed {o} {r} {b} written e = record {
+  used = e .0;
+  failed = λ h. e .1 ∙ rw h;
+  lost = λ h. e .1 ∙ rw (due-lost o (length b) h, ne-eqb 0 (o .used) (λ q. absurd (omega arith)), and-false written) (or-true (o .failed));
+}
 
 -- a buffer that can hold any line has room for one
 room-fits : {o from : Output} {b : List ℕ} → Room o b from → longest ≤ length b → from .used + longest ≤ length b

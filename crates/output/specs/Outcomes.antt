@@ -1,17 +1,26 @@
--- What is put into the buffer and what becomes of it. No contract can say what was written: a write's own failure is the system's choice.
+-- What is put into the buffer, which write is due of it, and what becomes of it. No contract can say that a write was made: its failure is
+-- the system's choice.
 use mathlib.Core.Path.{_≡_}
-use mathlib.Core.Bool.{true}
+use mathlib.Core.Bool.{true, cond, _||_}
 use mathlib.Core.List.{List}
 use Prim.Native.Nat.{ℕ, _+_, _-_, _<_, _≤_, min}
+use lib.Dec.{ltb}
+use lib.IntN.{pos}
 use lib.ListN.{length}
 use lib.Seq.{sets}
 use Rattle.output.specs.declared.Output.{Output}
+use Rattle.output.specs.declared.Write.{Write}
 
 -- the text stands behind the bytes used, as far as there is room: past the end nothing is stored
 pub record Put (text : List ℕ) (o : Output) (buffer : List ℕ) (r : Output) (later : List ℕ) : Type 0 where
   pub used : r .used ≡ o .used + min (length text) (length buffer - o .used)
   pub failed : r .failed ≡ o .failed
   pub bytes : later ≡ sets buffer (o .used) text
+
+-- the write that is due of a buffer of this length: to standard output, which is descriptor 1, the bytes used; none after a failed write or
+-- where the buffer has not so many
+unfoldable pub due : Output → (length : ℕ) → Write
+due o length = record { descriptor = pos 1; bytes = cond (o .failed || ltb length (o .used)) 0 (o .used) }
 
 -- the bytes used are written, or lost where this write or one before it failed, or where the buffer has not so many
 pub record Flushed (o : Output) (buffer : List ℕ) (r : Output) : Type 0 where

@@ -4,17 +4,23 @@ ghost use mathlib.Core.Bool.{false, not, _||_};
 ghost use mathlib.Core.List.{[], _∷_};
 ghost use Rattle.lists.specs.Lent.{entry, exit};
 ghost use Rattle.output.specs.Text.{ended, heading, line, done, refused};
-ghost use Rattle.output.specs.Outcomes.{Put, Flushed, Room, PutLine};
+ghost use Rattle.output.specs.Outcomes.{Put, due, Flushed, Room, PutLine};
 use libc::STDOUT_FILENO;
 
 // The most bytes of a line: five numbers of 20 digits, and the byte behind each.
 pub const LINE: usize = 5 * (20 + 1);
 
 // Where the output stands: the bytes used of the buffer, which are still to be written, and whether a write has failed. After a failed write
-// nothing more is written.
+// nothing more is written: `due` says so of every write, and `flush` makes that one alone.
 pub struct Output {
     pub used: usize,
     pub failed: bool,
+}
+
+// A write: to which descriptor, and how many of the buffer's first bytes.
+struct Write {
+    descriptor: i32,
+    bytes: usize,
 }
 
 impl Output {
@@ -37,18 +43,25 @@ impl Output {
         }
     }
 
-    // Writes the bytes used, unless a write has failed.
+    // The write that is due of a buffer of this length.
+    fn due(self, length: usize) -> Write
+        ensures { λ r. ⌜ r ≡ due self length ⌝ }
+    {
+        let lost = self.failed | (length < self.used);
+        Write {
+            descriptor: STDOUT_FILENO,
+            bytes: if lost { 0 } else { self.used },
+        }
+    }
+
+    // Makes the write that is due; one of no bytes makes no call of the system.
     pub fn flush(self, buffer: &[u8]) -> Output
         ensures { λ r. ⌜ Flushed self (entry buffer) r ⌝ }
     {
-        let used = self.used;
-        if self.failed {
-            return self.after_write(false);
-        }
-        if buffer.len() < used {
-            return self.after_write(false);
-        }
-        self.after_write(io::write_all(STDOUT_FILENO, &buffer[..used]))
+        let due = self.due(buffer.len());
+        let bytes = due.bytes;
+        let written = io::write_all(due.descriptor, &buffer[..bytes]);
+        self.after_write(written & (bytes == self.used))
     }
 
     // Writes the bytes used where a line might not fit behind them.
