@@ -20,7 +20,7 @@ use Rattle.halfstep.specs.Site.{siteOf, flowFaultOf, faceFaultOf, numbersOf, Pa
 use Rattle.halfstep.specs.declared.Site.{Site}
 use Rattle.halfstep.specs.declared.descent.Cursor.{Cursor}
 use Rattle.halfstep.proofs.Descending.{Along, Known}
-use Rattle.halfstep.proofs.Sites.{flow-fault-at, face-fault-at, numbers-at}
+use Rattle.halfstep.proofs.Sites.{SiteAt, flow-fault-at, face-fault-at, numbers-at}
 use Rattle.halfstep.proofs.Segments.{Sited, Descended, descended-top, known-at, descends-at, descended-next, below-at, sited}
 use Rattle.sheet.proofs.Passed.{ReachWithin, passed}
 use Rattle.course.specs.Segments.{courseFault, siteFault, Clear, ClearSite, Read, IsSegment}
@@ -70,18 +70,25 @@ few-rows {sheet} r = passed sheet (r .passed) .flowRowCounts
 -- where the descent stands is a segment of the river
 pub is-segment : {course : Course} {i : ℕ} {site : Site} → Sited course i site → IsSegment course i site
 is-segment s = record {
-  fields = s .fields;
   own = s .place .own;
-  flow = flow-fault-at (s .place);
-  face = face-fault-at (s .place);
-  numbers = numbers-at (s .place);
+  above = s .place .above;
+  below = s .place .below;
+  flow = s .place .stream;
+  last = s .place .end;
+  dt = s .place .time;
+  dx = s .place .step;
+  fields = s .fields;
 }
 
 module _ {course : Course} {i : ℕ} {site : Site} (s : IsSegment course i site) where
+  -- what the tests and the numbers of a segment rest on
+  place : SiteAt course i site
+  place = record { own = s .own; above = s .above; below = s .below; stream = s .flow; end = s .last; time = s .dt; step = s .dx }
+
   -- a test of the segment by itself
   pub site-fault : (number : ℕ) → siteFault number site ≡ courseFault number course i
   unfolding siteFault courseFault
-  site-fault number = rw (s .flow, s .face, s .numbers)
+  site-fault number = rw (flow-fault-at place, face-fault-at place, numbers-at place)
 
   -- tests of lower numbers pass the segment by itself
   pub clear-site : {number n : ℕ} → 10 ≤ number → Clear number n course → i < n → ClearSite number site
@@ -94,7 +101,7 @@ module _ {course : Course} {i : ℕ} {site : Site} (s : IsSegment course i site)
   -- the numbers that stand for the segment's are those, where test 12 passes
   pub numbers-are : {n : ℕ} {given : HalfStep.Numbers} → Clear 13 n course → i < n → StandFor given (numbersOf site) → given ≡ HalfStep.numbers course i
   unfolding courseFault
-  numbers-are clear h stand = stand .same (rw (s .numbers) (clear .each 12 (omega arith) (omega arith) i h)) ∙ s .numbers
+  numbers-are clear h stand = stand .same (rw (numbers-at place) (clear .each 12 (omega arith) (omega arith) i h)) ∙ numbers-at place
 
 -- test 10 passes
 pub flow-site : {number : ℕ} {site : Site} → ClearSite number site → 10 < number → flowFaultOf site ≡ false

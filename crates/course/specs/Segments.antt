@@ -5,7 +5,8 @@ use mathlib.Core.Path.{_≡_}
 use Prim.Native.Nat.{ℕ, _<_, _≤_}
 use lib.Dec.{eqb}
 use Rattle.model.specs.Sheet.{segmentCount, flowRowCount}
-use Rattle.model.specs.Flow.{Course, courseOf, reachAt}
+use Rattle.model.specs.Flow.{Course, courseOf, reachAt, flow}
+use Rattle.model.specs.HalfStep.{isLast, adAbove, adBelow}
 use Rattle.model.specs.HalfStep as HalfStep
 use Rattle.model.specs.Load.{flowFault, faceFault, sumFault, sheetTests}
 use Rattle.model.specs.Refusals.{passes, first}
@@ -46,10 +47,13 @@ pub record Read (sheet : List ℕ) (n : ℕ) : Type 0 where
   pub passed : first (sheetTests sheet) ≡ passes
   pub count : n ≡ segmentCount sheet
 
--- the site is segment i of the river, and its fields are in their ranges
+-- the site is segment i of the river, each of its fields as the river has it there; and they are in their ranges
 pub record IsSegment (course : Course) (i : ℕ) (site : Site) : Type 0 where
-  pub fields : Fields site
   pub own : reachAt course i ≡ reachSays (site .own)
-  pub flow : flowFaultOf site ≡ flowFault course i
-  pub face : faceFaultOf site ≡ faceFault course i
-  pub numbers : numbersOf site ≡ HalfStep.numbers course i
+  pub above : adAbove course i ≡ site .above
+  pub below : adBelow course i ≡ site .below
+  pub flow : flow course i ≡ site .flow
+  pub last : isLast course i ≡ site .last
+  pub dt : course .dt ≡ site .dt
+  pub dx : course .dx ≡ site .dx
+  pub fields : Fields site
