@@ -22,6 +22,7 @@ static struct yumbaqel_refusal told;
 static struct yumbaqel_figures figures;
 static uint32_t u, segment, limit;
 static volatile uint32_t found;
+static volatile uint64_t off;
 
 static void load(void) { told = yumbaqel_river_load(&river, sheet, length, reaches, YUMBAQEL_MOST_REACHES); }
 static void rows(void) { told = yumbaqel_river_rows(&river); }
@@ -34,6 +35,9 @@ static void gauge(void) { found = yumbaqel_river_gauge(&river, river.loaded.gaug
 static void flow(void) { found = yumbaqel_flow(sheet, length, 0); }
 static void dt(void) { found = yumbaqel_river_dt(&river); }
 static void dx(void) { found = yumbaqel_river_dx(&river); }
+static void most_off(void) { off = yumbaqel_most_off(river.done); }
+static void most_rivers(void) { found = yumbaqel_most_rivers(); }
+static void most_blocks(void) { found = yumbaqel_most_blocks(); }
 static void version(void) { found = yumbaqel_version(); }
 
 static void step(void)
@@ -135,6 +139,9 @@ int main(void)
     print_time("flow", flow);
     print_time("dt", dt);
     print_time("dx", dx);
+    print_time("most_off", most_off);
+    print_time("most_rivers", most_rivers);
+    print_time("most_blocks", most_blocks);
     print_time("version", version);
     yumbaqel_shared_lend(&shared, shared_words, shared_wide_words);
     yumbaqel_shared_lend_river(&shared, &pool_river, YUMBAQEL_MOST_SEGMENTS, pool_river_words, pool_highest_words);

@@ -31,7 +31,7 @@
 extern "C" {
 #endif
 
-#define YUMBAQEL_VERSION 30000           /* of this header, 3.0.0: major x 10,000 + minor x 100 + patch */
+#define YUMBAQEL_VERSION 30100           /* of this header, 3.1.0: major x 10,000 + minor x 100 + patch */
 #define YUMBAQEL_SCALE 1073741824        /* one whole, 2^30 */
 #define YUMBAQEL_HIGHEST 1000000000      /* the highest concentration, ng/L */
 #define YUMBAQEL_MOST_SEGMENTS 1024
@@ -340,6 +340,21 @@ uint32_t yumbaqel_flow(const uint8_t *sheet, size_t sheet_length, uint32_t j);
 /* dt of a sheet in s, and dx in cm. Bytes past the sheet's end count as 0. Nothing is tested or written. */
 uint32_t yumbaqel_dt(const uint8_t *sheet, size_t sheet_length);
 uint32_t yumbaqel_dx(const uint8_t *sheet, size_t sheet_length);
+
+/*
+ * How far a figure may be off the exact river after so many accepted steps since the latest accepted start, which is the state's count of
+ * them: 6 x steps, in ng/L for channel and storage (C and Z), and times Kd, in pg/g, for sediment (Kd x W). So the exact river is not above
+ * a limit where the figure and this together are not. It is proved of calls that are lent lists as a loading left them, of a step those of
+ * its pair of flows (docs/THEOREM.md). Nothing is tested or written.
+ */
+uint64_t yumbaqel_most_off(uint32_t steps);
+
+/* The most rivers that share lists, YUMBAQEL_MOST_RIVERS. It is proved that each of them shows the figures that its own calls alone give. */
+uint32_t yumbaqel_most_rivers(void);
+
+/* The highest figures of the longest river, YUMBAQEL_BLOCKS. It is proved that a search which is lent channel and highest figures as the
+   calls left them says 0 just where no segment is above the limit. */
+uint32_t yumbaqel_most_blocks(void);
 
 /* The library's own version. The header belongs to it where this is YUMBAQEL_VERSION. */
 uint32_t yumbaqel_version(void);

@@ -13,7 +13,7 @@ from typing import NamedTuple, Optional
 import exact
 import model
 import sheets
-from library import FIGURES, KINDS, OLD, WORKING, Buffer, Library, Size, Slice, U32, flat
+from library import FIGURES, KINDS, OLD, WORKING, Argument, Buffer, Library, Size, Slice, U32, flat
 from model import (COLUMNS, HIGHEST, HIGHEST_KD, MOST_SEGMENTS, MOST_STEPS, ONE_WHOLE, SET, Reach, gauge_count_at,
                    row_count_at)
 from sheets import HIGHEST_FIELD
@@ -214,37 +214,31 @@ class Caller:
                           shelf.whole("concentrations"))
         return self.settle("rows", refusal, f"{count} rows")
 
-    def gauge(self, j: int) -> int:
-        shelf = self.shelf
-        sheet = bytes(shelf.content["sheet"])
-        found = self.library.call("gauge", shelf.whole("sheet"), Size(j))
-        wanted = model.field_at(sheet, gauge_count_at(sheet) + model.FIELD + model.FIELD * j)
+    def reading(self, name: str, wanted: int, *handed: Argument) -> int:
+        """A call that has a result and no answer; it writes nothing."""
+        figures = "".join(f" {each}" for each in handed if isinstance(each, int))
+        found = self.library.call(name, *handed)
         if found != wanted:
-            raise Difference(f"gauge {j} is {found}, not {wanted}")
-        self.shelf.compare(f"gauge {j}")
-        self.tally.take("gauge", ACCEPTED)
+            raise Difference(f"{name}{figures} is {found}, not {wanted}")
+        self.shelf.compare(f"{name}{figures}")
+        self.tally.take(name, ACCEPTED)
         return found
+
+    def gauge(self, j: int) -> int:
+        sheet = bytes(self.shelf.content["sheet"])
+        wanted = model.field_at(sheet, gauge_count_at(sheet) + model.FIELD + model.FIELD * j)
+        return self.reading("gauge", wanted, self.shelf.whole("sheet"), Size(j))
 
     def flow(self, j: int) -> int:
         """The number of the flow in force at a step of the sheet on the shelf."""
-        found = self.library.call("flow", self.shelf.whole("sheet"), U32(j))
         wanted = model.flow_in_force(bytes(self.shelf.content["sheet"]), j)
-        if found != wanted:
-            raise Difference(f"the flow in force at step {j} is {found}, not {wanted}")
-        self.shelf.compare(f"flow at step {j}")
-        self.tally.take("flow", ACCEPTED)
-        return found
+        return self.reading("flow", wanted, self.shelf.whole("sheet"), U32(j))
 
     def header_field(self, name: str) -> int:
         """dt or dx of the sheet on the shelf."""
-        found = self.library.call(name, self.shelf.whole("sheet"))
         at = len(model.MARK) + model.FIELD * model.Header._fields.index(name)
         wanted = model.field_at(bytes(self.shelf.content["sheet"]), at)
-        if found != wanted:
-            raise Difference(f"{name} is {found}, not {wanted}")
-        self.shelf.compare(name)
-        self.tally.take(name, ACCEPTED)
-        return found
+        return self.reading(name, wanted, self.shelf.whole("sheet"))
 
     def upstream(self, starts: list[int], concentrations: list[int], steps: int, j: int) -> Optional[int]:
         shelf = self.shelf

@@ -468,6 +468,7 @@ static size_t read_sheet(const char *name, uint8_t *sheet)
 
 int main(int count, char **arguments)
 {
+    static const uint32_t counts[] = {0, 1, 100000, UINT32_MAX};
     char line[200], name[32], field[32];
     unsigned which;
     unsigned long first, second;
@@ -477,6 +478,10 @@ int main(int count, char **arguments)
         lengths[which] = read_sheet(arguments[1 + which], sheets[which]);
     print_names();
     printf("version %llu\n", UNSIGNED(yumbaqel_version()));
+    printf("most_rivers %llu\n", UNSIGNED(yumbaqel_most_rivers()));
+    printf("most_blocks %llu\n", UNSIGNED(yumbaqel_most_blocks()));
+    for (which = 0; which < SIZE(counts); which++)
+        printf("most_off %llu %llu\n", UNSIGNED(counts[which]), UNSIGNED(yumbaqel_most_off(counts[which])));
     fill();
     while (fgets(line, sizeof line, stdin) != NULL) {
         if (sscanf(line, "%31s %u %31s %lu %lu", name, &which, field, &first, &second) != 5)

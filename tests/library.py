@@ -21,7 +21,8 @@ FIGURES = ("C", "Z", "W")           # the state's lists
 WORKING = ("p", "y")
 POOL_CALLS = ("pool_open", "pool_start", "pool_step", "pool_report", "pool_search", "pool_close")
 CALLS = ("load", "start", "step", "report", "search", "upstream", "rows", *POOL_CALLS)
-READINGS = ("gauge", "flow", "dt", "dx", "version")     # these have a result and no answer
+READINGS = {**dict.fromkeys(("gauge", "flow", "dt", "dx", "most_rivers", "most_blocks", "version"), ctypes.c_uint32),
+            "most_off": ctypes.c_uint64}        # these have a result and no answer
 KINDS = {0: None, 1: "reach", 2: "segment", 3: "row"}
 TYPES = {1: "B", 4: "I", 8: "Q"}    # by the bytes of an entry
 GUARDS = 3                          # entries in front of a list and behind it
@@ -113,8 +114,8 @@ class Library:
         self.loaded = ctypes.CDLL(path)
         for name in CALLS:
             self.function(name).restype = None
-        for name in READINGS:
-            self.function(name).restype = ctypes.c_uint32
+        for name, result in READINGS.items():
+            self.function(name).restype = result
 
     def function(self, name: str):
         return getattr(self.loaded, f"yumbaqel_{name}")

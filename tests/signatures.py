@@ -15,16 +15,17 @@ class Parameter(NamedTuple):
 
 
 class Signature(NamedTuple):
-    """An exported function: its parameters in Rattle's types, and whether it has a result."""
+    """An exported function: its parameters in Rattle's types, and its result in C's."""
 
     name: str
     parameters: list[Parameter]
-    result: bool
+    result: str
 
 
 NUMBERS = {"u32": "uint32_t ", "usize": "size_t ", "&mut u32": "uint32_t *", "&mut u64": "uint64_t *",
            "&mut [u32; 9]": "struct yumbaqel_loaded *", "&mut Table": "struct yumbaqel_table *",
            "&Table": "const struct yumbaqel_table *"}
+RESULTS = {"": "void", "u32": "uint32_t", "u64": "uint64_t"}
 SLICES = {"&[u8]": "const uint8_t *", "&[u32]": "const uint32_t *", "&mut [u32]": "uint32_t *",
           "&mut [u64]": "uint64_t *", "&mut [Reach]": "struct yumbaqel_reach *"}
 
@@ -33,9 +34,9 @@ def signatures() -> dict[str, Signature]:
     found = {}
     # lists that a call gathers are lent for one lifetime, which C does not see
     source = SOURCE.read_text().replace("<'a>", "").replace("&'a ", "&")
-    for each in re.finditer(r'extern "C" fn (\w+)\(([^)]*)\)( -> u32)?', source):
+    for each in re.finditer(r'extern "C" fn (\w+)\(([^)]*)\)(?: -> (\w+))?', source):
         parameters = [Parameter(*part) for part in re.findall(r"(\w+): ([^,]+?),?\s*(?=\w+:|$)", each[2].strip())]
-        found[each[1]] = Signature(each[1], parameters, each[3] is not None)
+        found[each[1]] = Signature(each[1], parameters, RESULTS[each[3] or ""])
     return found
 
 
@@ -51,8 +52,7 @@ def c_parameters(signature: Signature) -> list[str]:
 
 
 def declaration(signature: Signature) -> str:
-    result = "uint32_t" if signature.result else "void"
-    return f"{result} {signature.name}({', '.join(c_parameters(signature)) or 'void'})"
+    return f"{signature.result} {signature.name}({', '.join(c_parameters(signature)) or 'void'})"
 
 
 def recorded(signature: Signature) -> list[str]:
@@ -72,17 +72,16 @@ def recorder_source(library: dict[str, Signature]) -> str:
              "int recorder_marks;"]
     for signature in library.values():
         parameters = c_parameters(signature)
-        result = "uint32_t" if signature.result else "void"
         answer = f"return {RESULT_MARK};"
-        if not signature.result:
+        if signature.result == "void":
             answer = "*number = {}, *kind = {}, *place = {}; return;".format(*MARKS)
         lines += [f"{declaration(signature)} {{",
-                  f"    static {result} (*real)({', '.join(parameters) or 'void'});",
+                  f"    static {signature.result} (*real)({', '.join(parameters) or 'void'});",
                   f'    *(void **)&real = dlsym(RTLD_NEXT, "{signature.name}");',
                   f'    printf(" call {signature.name}");',
                   *(f'    printf(" {name} %llu", (unsigned long long){name});' for name in recorded(signature)),
                   '    printf("\\n");',
                   f"    if (recorder_marks) {{ {answer} }}",
-                  f"    {'return ' if signature.result else ''}real("
+                  f"    {'' if signature.result == 'void' else 'return '}real("
                   f"{', '.join(re.search(r'[a-z0-9_]+$', each)[0] for each in parameters)});", "}"]
     return "\n".join(lines) + "\n"

@@ -36,6 +36,7 @@ static uint32_t number, limit;
 static struct yumbaqel_refusal told;
 static struct yumbaqel_figures figures;
 static uint32_t u;
+static uint64_t off;
 
 static void load(void)
 {
@@ -95,6 +96,21 @@ static void dt(void)
 static void dx(void)
 {
     u = yumbaqel_river_dx(&river);
+}
+
+static void most_off(void)
+{
+    off = yumbaqel_most_off(river.done);
+}
+
+static void most_rivers(void)
+{
+    u = yumbaqel_most_rivers();
+}
+
+static void most_blocks(void)
+{
+    u = yumbaqel_most_blocks();
 }
 
 static void version(void)
@@ -196,6 +212,9 @@ int main(void)
     measure("flow", flow);
     measure("dt", dt);
     measure("dx", dx);
+    measure("most_off", most_off);
+    measure("most_rivers", most_rivers);
+    measure("most_blocks", most_blocks);
     measure("version", version);
     measure("upstream", upstream);
     measure("start", start);

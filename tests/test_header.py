@@ -27,6 +27,7 @@ from dataclasses import replace
 from pathlib import Path
 from typing import Optional
 
+import exact
 import model
 import sheets
 import stack
@@ -112,8 +113,14 @@ def wanted_names(right: dict[str, int]) -> list[str]:
     return lines
 
 
-def called_version(right: dict[str, int]) -> list[str]:
-    return [" call yumbaqel_version", f"version {right['VERSION']}"]
+def called_numbers(right: dict[str, int]) -> list[str]:
+    """The calls that are lent nothing, as the recorder has them, and their results: two of these are constants too."""
+    lines = []
+    for name, constant in (("version", "VERSION"), ("most_rivers", "MOST_RIVERS"), ("most_blocks", "BLOCKS")):
+        lines += [f" call yumbaqel_{name}", f"{name} {right[constant]}"]
+    for steps in (0, 1, MOST_STEPS, sheets.HIGHEST_FIELD):
+        lines += [f" call yumbaqel_most_off steps {steps}", f"most_off {steps} {exact.ALLOWED * steps}"]
+    return lines
 
 
 # Limits, numbers and kinds, put to the library
@@ -258,7 +265,7 @@ class Bench:
             mirror.do(command)
         names = sorted(wanted_names(right))
         self.wanted_names = "".join(f"{line}\n" for line in names)
-        self.wanted = "".join(f"{line}\n" for line in (*sorted((*names, *called_version(right))), *mirror.lines))
+        self.wanted = "".join(f"{line}\n" for line in (*sorted((*names, *called_numbers(right))), *mirror.lines))
 
     def build(self, text: str, folder: Path, words: tuple[str, ...] = ("gcc", "-std=c99")) -> Optional[str]:
         """The program against this header; nothing where it does not compile."""

@@ -12,6 +12,7 @@ from typing import NamedTuple
 
 KEYWORDS = {"if", "for", "sizeof", "return"}
 OTHERS = {"<": "<=", ">": ">=", "==": "!=", "!=": "==", "||": "&&", "+": "-"}
+RESULTS = ("void", "uint32_t", "uint64_t")
 EXPORT = r"^(?!static|typedef)(?:\w+ )+(\w+)\(([^)]*)\)(;)"
 TOKEN = re.compile(r'"[^"\n]*"|\w+|->|[^\w\s]')
 
@@ -257,6 +258,12 @@ class Header:
         yield from self.without_const()
 
     def wrong_declarations(self) -> Iterator[Wrong]:
-        """Each pair of parameters of an exported function exchanged; where the types agree, only reading shows it."""
+        """Each pair of parameters of an exported function exchanged; where the types agree, only reading shows it.
+        And each result of another type."""
         for function in self.exports:
             yield from self.pairs("declaration", function.name, function.parameters)
+        for found in self.found(rf"^({'|'.join(RESULTS)}) (\w+)\([^)]*\);"):
+            for other in RESULTS:
+                if other != found[1]:
+                    edited = self.put(Span(*found.span(1)), other)
+                    yield Wrong("declaration", f"{found[2]}: the result is {other}", edited)

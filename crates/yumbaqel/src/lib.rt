@@ -1,18 +1,24 @@
-// The library for C: every public call of the documents, exported under its plain name. `include/yumbaqel.h` declares them.
+// The library for C: every public call of the documents, exported under its plain name, and three numbers that carry the claims over every list of
+// calls, so that the library is not built without them. `include/yumbaqel.h` declares all of them.
 //
 // What a call hands out comes first: `number` is 0 or the number of the refusal, `kind` and `place` are its place, and then its values.
 // An accepted call writes all of them and the first entries of its lists; a refused one writes those three numbers and nothing else.
 ghost use mathlib.Core.Path.{_≡_};
 ghost use mathlib.Core.List.{map};
+ghost use Prim.Native.Nat.{_*_};
 ghost use lib.ListN.{length};
 ghost use Rattle.model.specs.Sheet.{dt, dx, rowStarts, rowConcentrations, gaugeCountAt, recordField};
-ghost use Rattle.model.specs.Ranges.{gaugeSection};
+ghost use Rattle.model.specs.Ranges.{gaugeSection, mostSegments};
 ghost use Rattle.model.specs.Flow.{flowInForce};
 ghost use Rattle.model.specs.Load.{loadAnswer, loadColumns, loadRecords};
 ghost use Rattle.model.specs.Pool.{poolStartAnswer, poolStart, poolStartHighest, poolStepAnswer, poolStep, poolStepHighest, poolStepWorking, poolReportAnswer, PoolSearchAnswer, closeFinding, closedTable, openAnswer, openColumns, openRecords, poolOpen, openHighest};
 ghost use Rattle.model.specs.Calls.{startAnswer, startState, startHighest, stepAnswer, stepState, stepHighest, stepWorking, reportAnswer};
 ghost use Rattle.model.specs.Search.{SearchAnswer};
 ghost use Rattle.model.specs.Upstream.{upstreamAnswer};
+ghost use Rattle.model.specs.Highest.{blockCount};
+ghost use Rattle.model.specs.Claim.{Demand3, LoadedLists};
+ghost use Rattle.model.specs.PoolClaim.{Sharing};
+ghost use Rattle.model.specs.SearchClaim.{SearchTold, PoolSearchTold};
 ghost use Rattle.terms.specs.Says.{reachSays};
 ghost use Rattle.lists.specs.Lent.{entry, exit};
 ghost use Rattle.terms.specs.Lent.{set, columns, state, working, tableIn, pool};
@@ -636,10 +642,41 @@ pub extern "C" fn yumbaqel_dx(sheet: &[u8]) -> u32
     sheet::fields::dx(sheet)
 }
 
-// The version of this interface, 3.0.0: the first number times 10,000, the second times 100 and the third.
+// How far a figure may be off the exact river after `steps` accepted steps since the latest accepted start: in ng/L for channel and storage, and times
+// Kd, in pg/g, for sediment. With it goes the claim that none is further off.
+#[no_mangle]
+pub extern "C" fn yumbaqel_most_off(steps: u32) -> u64
+    ensures { λ r. ⌜ r ≡ 6 * steps ⌝ }
+    ensures { λ r. ⌜ Demand3 ⌝ }
+    ensures { λ r. ⌜ LoadedLists ⌝ }
+{
+    distance_claim::most_off(steps)
+}
+
+// The most rivers that a pool has open, with the claim that each shows the figures of its own calls.
+#[no_mangle]
+pub extern "C" fn yumbaqel_most_rivers() -> u32
+    ensures { λ r. ⌜ r ≡ 8 ⌝ }
+    ensures { λ r. ⌜ Sharing ⌝ }
+{
+    pool_claim::most_rivers()
+}
+
+// The highest figures of the longest river, one for each sixteen segments, with the claim that a search of lists as they were left tells whether a
+// segment is above, of a river alone and on a pool.
+#[no_mangle]
+pub extern "C" fn yumbaqel_most_blocks() -> u32
+    ensures { λ r. ⌜ r ≡ blockCount mostSegments ⌝ }
+    ensures { λ r. ⌜ SearchTold ⌝ }
+    ensures { λ r. ⌜ PoolSearchTold ⌝ }
+{
+    search_claim::most_blocks()
+}
+
+// The version of this interface, 3.1.0: the first number times 10,000, the second times 100 and the third.
 #[no_mangle]
 pub extern "C" fn yumbaqel_version() -> u32
-    ensures { λ r. ⌜ r ≡ 30000 ⌝ }
+    ensures { λ r. ⌜ r ≡ 30100 ⌝ }
 {
-    30000
+    30100
 }
