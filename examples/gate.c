@@ -7,6 +7,9 @@
  * through the sheet's M steps with U from the sheet's boundary rows; a controller hands over its reading upstream instead. The flow is
  * that of the sheet's flow rows, if it has any. The gate is open at the start; a line is printed whenever it moves, and at the end how many
  * steps were made.
+ *
+ * A figure may be off the exact river by yumbaqel_most_off of the steps done, so the gate is shut while the figure and that margin together
+ * are above the limit: whenever the exact river stands above the limit, the gate is shut.
  */
 #include "console.h"
 
@@ -49,7 +52,7 @@ int main(int count, char **arguments)
         need(yumbaqel_river_sets(&river, reaches, YUMBAQEL_MOST_REACHES));
         need(yumbaqel_river_step(&river, u));
         need(yumbaqel_river_report(&river, segment, &figures));
-        if ((figures.channel > limit) != shut) {
+        if ((figures.channel + yumbaqel_most_off(river.done) > limit) != shut) {
             shut = !shut;
             printf("%s at step %u, after %lu s\n", shut ? "shut" : "open", (unsigned)river.done,
                    (unsigned long)river.done * yumbaqel_river_dt(&river));

@@ -5,7 +5,8 @@
  *
  * SHEET, GAUGE and LIMIT are as for gate, of each stream in turn; SHEET is a file. The streams are opened in their order, each under the
  * lowest number that is free. One that finds no number or no room (17) waits, and those behind it, until another one is closed. The open
- * rivers are stepped in turn, with U from their sheets' boundary rows and the flow of their flow rows. Each gate is open at the start.
+ * rivers are stepped in turn, with U from their sheets' boundary rows and the flow of their flow rows. Each gate is open at the start, and
+ * then shut while the figure and the margin of the river's own steps together are above its limit, as that of gate.
  *
  * After its M steps a river is closed, and so is at once one whose sheet has no such gauge. The number that it leaves is opened again for
  * the next stream that waits; naming the same SHEET twice opens the same river again, from its start. A line is printed when a stream is
@@ -89,7 +90,7 @@ static int step_stream(uint32_t number)
     need(yumbaqel_river_sets(river, reaches, YUMBAQEL_MOST_REACHES));
     need(yumbaqel_shared_step(&shared, number, river, u));
     need(yumbaqel_shared_report(&shared, number, river, stream->segment, &figures));
-    if ((figures.channel > stream->limit) != stream->shut) {
+    if ((figures.channel + yumbaqel_most_off(river->done) > stream->limit) != stream->shut) {
         stream->shut = !stream->shut;
         printf("stream %u %s at step %u, after %lu s\n", stream->which, stream->shut ? "shut" : "open", (unsigned)river->done,
                (unsigned long)river->done * yumbaqel_river_dt(river));

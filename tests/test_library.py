@@ -19,6 +19,7 @@ from itertools import chain, islice, product
 from pathlib import Path
 from typing import NamedTuple
 
+import exact
 import groups
 import model
 import reads
@@ -27,9 +28,9 @@ import sheets
 import stack
 from calls import ABOVE, ACCEPTED, LISTS, Caller, Change, Difference, Run, Tally, entries
 from groups import MOST_SHOWN, Group, Trial, say
-from library import CALLS, INCLUDE, OLD, READINGS, ROOT, STRICT, Library, compiled
-from model import (COLUMNS, HIGHEST, HIGHEST_KD, MOST_FLOW_ROWS, MOST_REACHES, MOST_RIVERS, MOST_ROWS, MOST_SEGMENTS,
-                   MOST_STEPS, ONE_WHOLE, SET, Row, flow_row_count_at, row_count_at)
+from library import CALLS, INCLUDE, OLD, READINGS, ROOT, STRICT, U32, Library, compiled
+from model import (COLUMNS, HIGHEST, HIGHEST_KD, MOST_BLOCKS, MOST_FLOW_ROWS, MOST_REACHES, MOST_RIVERS, MOST_ROWS,
+                   MOST_SEGMENTS, MOST_STEPS, ONE_WHOLE, SET, Row, flow_row_count_at, row_count_at)
 from sheets import HIGHEST_FIELD
 
 # The groups
@@ -196,6 +197,15 @@ def lookup(library: Library, rng: random.Random, tally: Tally) -> None:
         caller.upstream(starts, concentrations, steps, j)
 
 
+def numbers(library: Library, rng: random.Random, tally: Tally) -> None:
+    """The numbers that carry the claims: the distance that figures are held to, after any count of steps; two limits."""
+    caller = Caller(library, rng, tally)
+    for steps in (0, 1, 100, MOST_STEPS, HIGHEST_FIELD, rng.randint(0, HIGHEST_FIELD)):
+        caller.reading("most_off", exact.ALLOWED * steps, U32(steps))
+    caller.reading("most_rivers", MOST_RIVERS)
+    caller.reading("most_blocks", MOST_BLOCKS)
+
+
 def cases(rng: random.Random) -> Iterator[sheets.Case]:
     """Sheets of every kind, for single loadings."""
     yield from sheets.bench_cases()
@@ -258,6 +268,8 @@ GROUPS = (
     Group("every flow's set", lambda rng: map(every_set, chain(
         sheets.flow_rivers(), sheets.rivers(rng, 15, 400, FLOWS), sheets.large_rivers(rng, 1, 70, FLOWS),
         sheets.small_rivers(rng, 5))), {"load": {ACCEPTED, (13, None)}, "flow": {ACCEPTED}}),
+    Group("numbers that carry the claims", lambda rng: iter((numbers,)),
+          dict.fromkeys(("most_off", "most_rivers", "most_blocks"), {ACCEPTED})),
     Group("lookups of U", lambda rng: (lookup for _ in range(400)),
           {"upstream": {ACCEPTED, (3, None), (8, "row")}}),
     Group("the sheets' own rivers",
@@ -337,21 +349,23 @@ def refused_line(refusal: model.Refusal) -> str:
     return f"refused {refusal.number}{place}\n"
 
 
-def gate_moves(sheet: bytes, gauge: int, limit: int) -> Iterator[str]:
-    """For each step of an accepted sheet's river what a gate at that gauge does: a line, or nothing."""
+def gate_moves(sheet: bytes, gauge: int, limit: int, per_step: int = exact.ALLOWED) -> Iterator[str]:
+    """For each step of an accepted sheet's river what a gate at that gauge does: a line, or nothing.  The margin is the
+    distance that each step allows; with 0 the gate goes by the figures alone."""
     shut, dt = False, model.read_sheet(sheet).header.dt
     for after in model.run(sheet):
         line = ""
-        if (model.figures_at(after.lists, after.state, after.gauges[gauge - 1])[0] > limit) != shut:
+        figure = model.figures_at(after.lists, after.state, after.gauges[gauge - 1])[0]
+        if (figure + per_step * after.step > limit) != shut:
             shut = not shut
             line = f"{'shut' if shut else 'open'} at step {after.step}, after {after.step * dt} s\n"
         yield line
 
 
-def gate_lines(sheet: bytes, gauge: int, limit: int) -> str:
+def gate_lines(sheet: bytes, gauge: int, limit: int, per_step: int = exact.ALLOWED) -> str:
     """What examples/gate.c prints, by the model."""
     try:
-        lines = list(gate_moves(sheet, gauge, limit))
+        lines = list(gate_moves(sheet, gauge, limit, per_step))
     except model.Refusal as refusal:
         return refused_line(refusal)
     return "".join((*lines, f"done {len(lines)}\n"))
@@ -365,6 +379,13 @@ class Stream(NamedTuple):
     limit: int
 
 
+def near_limits() -> list[Stream]:
+    """A gate that the margin opens a step later, one that it shuts a step earlier, and one in clean water, which it
+    shuts once it is above the limit by itself."""
+    spill, clean = sheets.write(pulse()), sheets.write(sheets.brook(dt=1, Q=500, U=0, M=60))
+    return [Stream(spill, 1, 95_500), Stream(spill, 2, 3_000), Stream(clean, 1, 100)]
+
+
 @dataclass
 class Running:
     """A stream that is open: its place among all, its segments and steps, and what its gate does at each step."""
@@ -376,7 +397,7 @@ class Running:
     done: int = 0
 
 
-def waterworks_lines(streams: list[Stream]) -> str:
+def waterworks_lines(streams: list[Stream], per_step: int = exact.ALLOWED) -> str:
     """What examples/waterworks.c prints: each river moves as it does alone, and the pool decides who waits."""
     lines: list[str] = []
     waiting, running = list(enumerate(streams, 1)), {}
@@ -393,7 +414,7 @@ def waterworks_lines(streams: list[Stream]) -> str:
                     break
                 if 1 <= stream.gauge <= len(found.gauges):
                     number = min(set(range(1, MOST_RIVERS + 1)) - set(running))
-                    running[number] = Running(which, segments, found.header.M, gate_moves(*stream))
+                    running[number] = Running(which, segments, found.header.M, gate_moves(*stream, per_step))
                     lines.append(f"stream {which} opened as river {number}\n")
                 else:
                     lines.append(f"stream {which} has no such gauge\n")
@@ -502,7 +523,7 @@ def run_gate(archive: str, folder: Path, total: Tally) -> None:
     gate = Example("gate", archive, folder)
     seen = set()
     for sheet, gauge, limit in chain(product(example_sheets()[:-3], (1, 2, 3), (2_000, 100_000, 880_000, HIGHEST)),
-                                     product(example_sheets()[-3:], (1, 3), (HIGHEST // 2,))):
+                                     product(example_sheets()[-3:], (1, 3), (HIGHEST // 2,)), near_limits()):
         wanted = gate_lines(sheet, gauge, limit)
         for piped in (False, True):
             gate.compare(gate.run(sheet, gauge, limit, piped=piped), wanted, f"gauge {gauge}, limit {limit}")
@@ -512,6 +533,8 @@ def run_gate(archive: str, folder: Path, total: Tally) -> None:
         gate.compare(gate.run(sheets.write(pulse()), gauge, 1), "", f"gauge {gauge}, which there is not")
     moves = [gate_lines(sheets.write(draft), 1, 100_000) for draft in (pulse(), melting())]
     gate.hold(moves[0] != moves[1], "flow rows do not show")
+    for near in near_limits():
+        gate.hold(gate_lines(*near) != gate_lines(*near, per_step=0), f"the margin does not show at limit {near.limit}")
     gate.hold(len(seen) == 5, f"shows too little: {seen}")
     gate.close(total)
 
@@ -620,6 +643,7 @@ def run_waterworks(archive: str, folder: Path, total: Tally) -> None:
         [Stream(small, 0, 1), Stream(long[0], 1, 50_000), Stream(flowing, 4, 1), Stream(long[3], 4, 1),
          Stream(long[3], 1, 50_000), Stream(small, 3, 2_000), Stream(flowing, 9, 1)],
         [Stream(small, 4, 1)],
+        near_limits(),
     ]
     shown = []
     for at, streams in enumerate(cases):
@@ -638,6 +662,7 @@ def run_waterworks(archive: str, folder: Path, total: Tally) -> None:
     again = [[line[len("stream 1"):] for line in shown[5].splitlines() if line.startswith(f"stream {which} ")]
              for which in (1, 2, 3)]
     waterworks.hold(again[0] == again[1] == again[2], "a river that is opened again does not move as before")
+    waterworks.hold(shown[-1] != waterworks_lines(near_limits(), per_step=0), "the margin does not show")
     waterworks.compare(waterworks.printed(folder / "stream0", 1), "", "words are missing")
     waterworks.close(total)
 
