@@ -17,7 +17,7 @@ ghost use Rattle.model.specs.Search.{SearchAnswer};
 ghost use Rattle.model.specs.Upstream.{upstreamAnswer};
 ghost use Rattle.model.specs.Highest.{blockCount};
 ghost use Rattle.model.specs.Claim.{Demand3, LoadedLists};
-ghost use Rattle.model.specs.PoolClaim.{Sharing};
+ghost use Rattle.model.specs.PoolClaim.{Sharing, OpenedLists};
 ghost use Rattle.model.specs.SearchClaim.{SearchTold, PoolSearchTold};
 ghost use Rattle.terms.specs.Says.{reachSays};
 ghost use Rattle.lists.specs.Lent.{entry, exit};
@@ -653,11 +653,12 @@ pub extern "C" fn yumbaqel_most_off(steps: u32) -> u64
     distance_claim::most_off(steps)
 }
 
-// The most rivers that a pool has open, with the claim that each shows the figures of its own calls.
+// The most rivers that a pool has open, with the claim that each shows the figures of its own calls, and that an opening leaves what they are to be lent.
 #[no_mangle]
 pub extern "C" fn yumbaqel_most_rivers() -> u32
     ensures { λ r. ⌜ r ≡ 8 ⌝ }
     ensures { λ r. ⌜ Sharing ⌝ }
+    ensures { λ r. ⌜ OpenedLists ⌝ }
 {
     pool_claim::most_rivers()
 }
