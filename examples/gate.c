@@ -9,7 +9,7 @@
  * steps were made.
  *
  * A figure may be off the exact river by yumbaqel_most_off of the steps done, so the gate is shut while the figure and that margin together
- * are above the limit: whenever the exact river stands above the limit, the gate is shut.
+ * are above the limit: after every step at which the exact river stands above the limit, the gate is shut.
  */
 #include "console.h"
 

@@ -345,7 +345,7 @@ uint32_t yumbaqel_dx(const uint8_t *sheet, size_t sheet_length);
  * How far a figure may be off the exact river after so many accepted steps since the latest accepted start, which is the state's count of
  * them: 6 x steps, in ng/L for channel and storage (C and Z), and times Kd, in pg/g, for sediment (Kd x W). So the exact river is not above
  * a limit where the figure and this together are not. It is proved of calls that are lent lists as a loading left them, of a step those of
- * its pair of flows (docs/THEOREM.md). Nothing is tested or written.
+ * its pair of flows, and the state as the call before left it (docs/THEOREM.md). Nothing is tested or written.
  */
 uint64_t yumbaqel_most_off(uint32_t steps);
 

@@ -56,10 +56,13 @@ class Claim(NamedTuple):
     name: str
 
 
+FIGURES = {Claim("SearchClaim", "Left")}        # a record of figures, and no statement
+
+
 def stated_claims(files: Files) -> set[Claim]:
-    """The statements without parameters in the definitions of the claims; a record of them is known by its carrier."""
+    """The statements without parameters in the definitions of the claims."""
     return {Claim(file[len(SPECS):-len(".antt")], name) for file, text in files.items() if file.startswith(SPECS)
-            for name in re.findall(r"^abbrev pub (\w+) : Type 0$", text, re.M)}
+            for name in re.findall(r"^(?:abbrev pub|pub record) (\w+) : Type 0(?: where)?$", text, re.M)} - FIGURES
 
 
 def known_claims(function: Function, files: Files) -> set[Claim]:
@@ -150,7 +153,7 @@ def faults(files: Files) -> list[str]:
 
 
 class Edit(NamedTuple):
-    """A pattern that stands once in a file, and what is put in its place; `named` is what a fault must name."""
+    """The first place of a pattern in a file, and what is put there; `named` is what a fault must name."""
 
     what: str
     file: str
@@ -221,6 +224,8 @@ WRONG = (
     without_claim("pool_claim", "Sharing", "carrier"),
     Edit("a claim that nobody carries", f"{SPECS}Claim.antt", r"\Z", "\nabbrev pub Demand4 : Type 0\n",
          "Demand4 stands in the `ensures` of no carrier"),
+    Edit("a claim in parts that nobody carries", f"{SPECS}Claim.antt", r"\Z", "\npub record Demand5 : Type 0 where\n",
+         "Demand5 stands in the `ensures` of no carrier"),
     Edit("a claim under a condition", source(LIBRARY), r"⌜ Demand3 ⌝", "⌜ ⊥ → Demand3 ⌝", "Demand3 stands"),
     Edit("a claim in a comment", source(LIBRARY), r"(\n +)(ensures { λ r\. ⌜ Sharing ⌝ })", r"\1// \2",
          "Sharing stands"),

@@ -22,6 +22,7 @@ use Rattle.model.specs.Calls.{riverFault, numbersFault, segmentFault, startFaul
 use Rattle.model.specs.Runs.{LoadedFor, PairAsLoaded}
 use Rattle.model.specs.Claim.{LeftFor, LoadedLists}
 use Rattle.model.specs.PoolClaim.{OwnLists}
+use Rattle.model.proofs.FlowRows.{in-force-known}
 use Rattle.model.proofs.Refusals.{all-pass, first-rest, first-both, flows-clear, test-clear, each-clear, each-passes, outcome-passes, accepted-passes, accepted-values}
 use Rattle.loading_laws.proofs.Sheets.{FitReach, right, river-length}
 use Rattle.loading_laws.proofs.AsLoaded.{written-long, segments-written, segment-as-loaded, set-as-loaded}
@@ -166,13 +167,22 @@ unfolding loadColumns
 loading-left sheet r records columns e =
     let passed = load-passed e in rw e (with-values (passed .values) (left-for sheet r records columns (passed .front) (passed .lists)))
 
+-- an accepted one is accepted for every flow of the sheet
+pub loading-flows : (sheet : List ℕ) (r records : ℕ) (columns : Columns) {v : Loaded} → loadAnswer sheet r records columns ≡ accepted v →
+    (other : ℕ) → other ≤ flowRowCount sheet → loadAnswer sheet other records columns ≡ accepted v
+loading-flows sheet r records columns e other h =
+    let passed = load-passed e in
+    loads sheet other records columns (passed .front) (any-flow sheet r records columns (passed .front) (passed .lists) other h) ∙ ap accepted (passed .values)
+
 pub loaded-lists : LoadedLists
 loaded-lists = record {
   left = λ sheet r records columns v e. loading-left sheet r (length records) columns e;
-  flows = λ sheet r records columns v e other h.
-      let passed = load-passed e in
-      loads sheet other (length records) columns (passed .front) (any-flow sheet r (length records) columns (passed .front) (passed .lists) other h)
-      ∙ ap accepted (passed .values);
-  pairs = λ sheet n records records′ columns columns′ v v′ e e′.
-      pair-left (loading-left sheet (flowInForce sheet n) (length records) columns e) (loading-left sheet (flowInForce sheet (suc n)) (length records′) columns′ e′);
+  flows = λ sheet r records columns v e other h. loading-flows sheet r (length records) columns e other h;
+  pairs = λ sheet r r′ records records′ columns columns′ v v′ e e′ n.
+      let old = loading-flows sheet r (length records) columns e (flowInForce sheet n) (in-force-known sheet n) in
+      let new = loading-flows sheet r′ (length records′) columns′ e′ (flowInForce sheet (suc n)) (in-force-known sheet (suc n)) in (
+        old,
+        new,
+        pair-left (loading-left sheet (flowInForce sheet n) (length records) columns old) (loading-left sheet (flowInForce sheet (suc n)) (length records′) columns′ new),
+      );
 }

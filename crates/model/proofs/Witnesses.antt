@@ -1,6 +1,7 @@
 -- Each claim can be met, and each can fail.
 use mathlib.Core.Path.{_≡_, refl, sym, ap, _∙_}
-use mathlib.Core.List.{List, [], _∷_, map}
+use mathlib.Core.List.{List, [], _∷_, _++_, map}
+use mathlib.Core.Logic.{⊎-elim}
 use mathlib.Core.Option.{Option, none, some}
 use Prim.Native.Nat.{ℕ, zero, suc, _+_, _*_, _<_}
 use native.Mathlib.Omega.{arith}
@@ -8,7 +9,7 @@ use lib.Dec.{T, leb, lit<, lit≤}
 use lib.IntN.{pos, natAbs}
 use lib.ListN.{getD-replicate}
 use lib.Signed.{leZ-yes}
-use Rattle.lists.specs.Lists.{lowestFrom, lowest, anyShorter, notRising, highestBelow}
+use Rattle.lists.specs.Lists.{lowestFrom, lowest, anyShorter, notRising, anyBelow, sumBelow, highestBelow}
 use Rattle.rounding.specs.Nearest.{nearest}
 use Rattle.rounding.specs.Floor.{floorDiv}
 use Rattle.fractions.specs.Fractions.{Same, Within, _·_}
@@ -19,58 +20,107 @@ use Rattle.model.specs.HalfStep.{Numbers, Segment, ad, isLast, adAbove, 
 use Rattle.model.specs.Sweep.{P, N, F, R, rowOf, newStorage, newSediment, newFigures, downward, stepped}
 use Rattle.model.specs.Equations.{Figures}
 use Rattle.model.specs.ExactRiver.{ExactFigures}
-use Rattle.model.specs.State.{pairAt, numbersAt, segmentAt, writeSegments, figuresAt, writeFigures}
+use Rattle.model.specs.State.{loadedSegments, figuresOf, pairAt, numbersAt, segmentAt, writeSegments, figuresAt, writeFigures}
 use Rattle.model.specs.Refusals.{nothing, accepted, refused, Finding, passes, first}
 use Rattle.model.specs.Load.{flowRowFault, testFlows, unmarked, walk, startsLate, rowFault, gaugeFault, flowFault, faceFault, sumFault, sheetTests, courseTests, listTests, loadTests, loaded, loadAnswer, loadColumns}
 use Rattle.model.specs.Highest.{blockHighest, blocksFault}
-use Rattle.model.specs.Calls.{oldFault, numbersFault, riverFault, segmentFault, figureFault, startFault, stateFault, heldFault, startTests, startAnswer, startState, startHighest, stepTests, stepAnswer, stepState, stepHighest, reportTests, reported, reportAnswer}
+use Rattle.model.specs.Calls.{oldFault, numbersFault, riverFault, segmentFault, figureFault, startFault, stateFault, heldFault, startTests, startAnswer, startState, startHighest, stepTests, stepAnswer, stepState, stepHighest, reportTests, Reported, reported, reportAnswer}
 use Rattle.model.specs.Search.{searchTests, Above, Finds, Searches, SearchAnswer, Clear}
-use Rattle.model.specs.Runs.{start, report, accepts, after, run, AsLoaded, PairAsLoaded, Fed}
-use Rattle.model.specs.Claim.{SameFigures, SamePast, Near}
-use Rattle.model.specs.Pool.{vacant}
-use Rattle.model.specs.PoolClaim.{NoneOpen}
+use Rattle.model.specs.Runs.{Lent, Call, start, step, report, accepts, after, run, AsLoaded, PairAsLoaded, Fed, events, Exact, noRiver, ExactRun}
+use Rattle.model.specs.Claim.{SameFigures, SamePast, Near, Holds, Demand3}
+use Rattle.model.specs.Pool.{vacant, Pool, openSegments, roomFault, tableFault, sharedFault, openTests, openAnswer, openColumns}
+use Rattle.model.specs.PoolClaim.{NoneOpen, vacated}
 use Rattle.model.specs.SearchClaim.{leftSince}
-use Rattle.model.specs.Bench.{bytes, allBytes, zeros, noState, noWork}
+use Rattle.model.specs.Bench.{bytes, allBytes, zeros, noState, noWork, listed, listedColumns, listedState}
 use Rattle.model.specs.FlowBench.{snow, melting}
-use Rattle.model.specs.Witnesses.{allClosed, meltingFor, meltingStep, meltingSteps, meltingCalls, AllAccepted, Demand3Met, kd2, exactly, NearBench, halves, SamePastBench, PairBench, SearchAnswersBench, TellsBench, SearchMet}
+use Rattle.model.specs.PoolBench.{openAt, tableOf, poolWith}
+use Rattle.model.specs.Witnesses.{allClosed, meltingFor, meltingStep, meltingSteps, meltingCalls, AllAccepted, refusedCalls, AllRefused, Demand3Met, LentBench, LoadedListsMet, LeftBench, FiguresBench, OpenedListsMet, OpensAloneBench, kd2, exactly, NearBench, halves, SamePastBench, PairBench, SearchAnswersBench, TellsBench, SearchMet}
 use Rattle.model.proofs.Refusals.{outcome-passes}
 use Rattle.model.proofs.Search.{finds-none, finds-some}
+
+-- two answers of different kinds are not the same
+differ : _≡_ {A = ℕ} 0 1 → ⊥
+differ e = absurd (omega arith)
 
 -- ---- demand 3: its premises
 
 -- what the calls are lent, and what they answer
 melting-lent : (AsLoaded melting (meltingFor 0)) × (PairAsLoaded melting 0 (meltingFor 0 .columns .numbers) (meltingFor 1))
     × (PairAsLoaded melting 1 (meltingFor 1 .columns .numbers) (meltingFor 1)) × (AsLoaded melting (meltingFor 2))
-    × (loadAnswer melting 0 1 (zeros 2) ≡ accepted (loaded melting)) × (AllAccepted (noState 2) meltingCalls)
-unfolding accepts after run meltingFor meltingStep meltingSteps meltingCalls noState lowestFrom lowest anyShorter notRising nearest floorDiv outside anyOutside startsWith field headerField sectionEnd rowCountAt gaugeCountAt sheetEnd recordField reachFields reachOf reachOn reaches rowStarts rowConcentrations gauges totalSegments segmentCount alongRiver courseOf reachAt ownGain gain flow discharge ad isLast adAbove adBelow eOf gOf rateOf numbers loadedSegment P N F R rowOf newStorage newSediment newFigures downward stepped segmentAt writeSegments figuresAt writeFigures unmarked walk startsLate rowFault gaugeFault flowFault faceFault sumFault sheetTests courseTests listTests loadTests loaded loadAnswer loadColumns blocksFault riverFault segmentFault figureFault startFault stateFault heldFault startTests startAnswer startState stepTests stepAnswer stepState reportTests reported reportAnswer bytes allBytes zeros noWork topOf sections hasFlowRows flowRowCountAt flowRowCount testFlows numbersFault numbersAt oldFault pairAt lastBegun flowInForce flowRowStart flowRowTop flowRowStarts flowRowTops flowRowFault snow melting
+    × (AllAccepted (noState 2) meltingCalls) × (AllRefused (after (noState 2) (start (meltingFor 0) (0 ∷ []) 3000)) refusedCalls)
+unfolding refusedCalls accepts after run meltingFor meltingStep meltingSteps meltingCalls noState lowestFrom lowest anyShorter notRising nearest floorDiv outside anyOutside startsWith field headerField sectionEnd rowCountAt gaugeCountAt sheetEnd recordField reachFields reachOf reachOn reaches rowStarts rowConcentrations gauges totalSegments segmentCount alongRiver courseOf reachAt ownGain gain flow discharge ad isLast adAbove adBelow eOf gOf rateOf numbers loadedSegment P N F R rowOf newStorage newSediment newFigures downward stepped segmentAt writeSegments figuresAt writeFigures unmarked walk startsLate rowFault gaugeFault flowFault faceFault sumFault sheetTests courseTests listTests loadTests loaded loadAnswer loadColumns blocksFault riverFault segmentFault figureFault startFault stateFault heldFault startTests startAnswer startState stepTests stepAnswer stepState reportTests reported reportAnswer bytes allBytes zeros noWork topOf sections hasFlowRows flowRowCountAt flowRowCount testFlows numbersFault numbersAt oldFault pairAt lastBegun flowInForce flowRowStart flowRowTop flowRowStarts flowRowTops flowRowFault snow melting
 melting-lent = (
   record { flow = 0; known = lit≤ tt; lists = record { count = refl; segments = refl } },
   record { before = refl; after = record { count = refl; segments = refl } },
   record { before = refl; after = record { count = refl; segments = refl } },
   record { flow = 2; known = lit≤ tt; lists = record { count = refl; segments = refl } },
-  refl,
   (tt, (tt, (tt, (tt, tt)))),
+  (λ t. t, (λ t. t, (λ t. t, tt))),
 )
 
-pub melting-fed : Fed melting (noState 2) meltingCalls
-unfolding accepts after run meltingFor meltingStep meltingSteps meltingCalls noState lowestFrom lowest anyShorter notRising nearest floorDiv outside anyOutside startsWith field headerField sectionEnd rowCountAt gaugeCountAt sheetEnd recordField reachFields reachOf reachOn reaches rowStarts rowConcentrations gauges totalSegments segmentCount alongRiver courseOf reachAt ownGain gain flow discharge ad isLast adAbove adBelow eOf gOf rateOf numbers loadedSegment P N F R rowOf newStorage newSediment newFigures downward stepped segmentAt writeSegments figuresAt writeFigures unmarked walk startsLate rowFault gaugeFault flowFault faceFault sumFault sheetTests courseTests listTests loadTests loaded loadAnswer loadColumns blocksFault riverFault segmentFault figureFault startFault stateFault heldFault startTests startAnswer startState stepTests stepAnswer stepState reportTests reported reportAnswer bytes allBytes zeros noWork topOf sections hasFlowRows flowRowCountAt flowRowCount testFlows numbersFault numbersAt oldFault pairAt lastBegun flowInForce flowRowStart flowRowTop flowRowStarts flowRowTops flowRowFault snow melting
-melting-fed =
+-- each flow of the sheet is loaded; the count and the report after the calls
+melting-told : (loadAnswer melting 0 1 (zeros 2) ≡ accepted (loaded melting)) × (loadAnswer melting 2 1 (zeros 2) ≡ accepted (loaded melting))
+    × (run (noState 2) meltingCalls .steps ≡ 2) × (loaded melting .segments ≡ 2)
+    × ((v : Reported) × (reportAnswer 2 (meltingFor 2 .columns) (run (noState 2) meltingCalls) 2 ≡ accepted v))
+unfolding refusedCalls accepts after run meltingFor meltingStep meltingSteps meltingCalls noState lowestFrom lowest anyShorter notRising nearest floorDiv outside anyOutside startsWith field headerField sectionEnd rowCountAt gaugeCountAt sheetEnd recordField reachFields reachOf reachOn reaches rowStarts rowConcentrations gauges totalSegments segmentCount alongRiver courseOf reachAt ownGain gain flow discharge ad isLast adAbove adBelow eOf gOf rateOf numbers loadedSegment P N F R rowOf newStorage newSediment newFigures downward stepped segmentAt writeSegments figuresAt writeFigures unmarked walk startsLate rowFault gaugeFault flowFault faceFault sumFault sheetTests courseTests listTests loadTests loaded loadAnswer loadColumns blocksFault riverFault segmentFault figureFault startFault stateFault heldFault startTests startAnswer startState stepTests stepAnswer stepState reportTests reported reportAnswer bytes allBytes zeros noWork topOf sections hasFlowRows flowRowCountAt flowRowCount testFlows numbersFault numbersAt oldFault pairAt lastBegun flowInForce flowRowStart flowRowTop flowRowStarts flowRowTops flowRowFault snow melting
+melting-told = (refl, refl, refl, refl, (_, refl))
+
+-- the steps and the report
+steps-fed : Fed melting (after (noState 2) (start (meltingFor 0) (0 ∷ []) 3000)) meltingSteps
+unfolding refusedCalls accepts after run meltingFor meltingStep meltingSteps meltingCalls noState lowestFrom lowest anyShorter notRising nearest floorDiv outside anyOutside startsWith field headerField sectionEnd rowCountAt gaugeCountAt sheetEnd recordField reachFields reachOf reachOn reaches rowStarts rowConcentrations gauges totalSegments segmentCount alongRiver courseOf reachAt ownGain gain flow discharge ad isLast adAbove adBelow eOf gOf rateOf numbers loadedSegment P N F R rowOf newStorage newSediment newFigures downward stepped segmentAt writeSegments figuresAt writeFigures unmarked walk startsLate rowFault gaugeFault flowFault faceFault sumFault sheetTests courseTests listTests loadTests loaded loadAnswer loadColumns blocksFault riverFault segmentFault figureFault startFault stateFault heldFault startTests startAnswer startState stepTests stepAnswer stepState reportTests reported reportAnswer bytes allBytes zeros noWork topOf sections hasFlowRows flowRowCountAt flowRowCount testFlows numbersFault numbersAt oldFault pairAt lastBegun flowInForce flowRowStart flowRowTop flowRowStarts flowRowTops flowRowFault snow melting
+steps-fed =
     let lent = melting-lent in
-    Fed.more {call = start (meltingFor 0) (0 ∷ []) 3000} (λ t. lent .0)
-    (Fed.more {call = meltingStep 0 1} (λ t. lent .1)
+    Fed.more {call = meltingStep 0 1} (λ t. lent .1)
     (Fed.more {call = meltingStep 1 1} (λ t. lent .2)
-    (Fed.more {call = report (meltingFor 2) 2} (λ t. lent .3) Fed.none)))
+    (Fed.more {call = report (meltingFor 2) 2} (λ t. lent .3) Fed.none))
+
+pub melting-fed : Fed melting (noState 2) meltingCalls
+unfolding meltingCalls
+melting-fed = Fed.more {call = start (meltingFor 0) (0 ∷ []) 3000} (λ t. melting-lent .0) steps-fed
+
+-- refused calls between, which may be lent anything and leave the state as it was
+refused-fed : Fed melting (noState 2) (start (meltingFor 0) (0 ∷ []) 3000 ∷ refusedCalls ++ meltingSteps)
+unfolding refusedCalls accepts after run meltingFor meltingStep meltingSteps meltingCalls noState lowestFrom lowest anyShorter notRising nearest floorDiv outside anyOutside startsWith field headerField sectionEnd rowCountAt gaugeCountAt sheetEnd recordField reachFields reachOf reachOn reaches rowStarts rowConcentrations gauges totalSegments segmentCount alongRiver courseOf reachAt ownGain gain flow discharge ad isLast adAbove adBelow eOf gOf rateOf numbers loadedSegment P N F R rowOf newStorage newSediment newFigures downward stepped segmentAt writeSegments figuresAt writeFigures unmarked walk startsLate rowFault gaugeFault flowFault faceFault sumFault sheetTests courseTests listTests loadTests loaded loadAnswer loadColumns blocksFault riverFault segmentFault figureFault startFault stateFault heldFault startTests startAnswer startState stepTests stepAnswer stepState reportTests reported reportAnswer bytes allBytes zeros noWork topOf sections hasFlowRows flowRowCountAt flowRowCount testFlows numbersFault numbersAt oldFault pairAt lastBegun flowInForce flowRowStart flowRowTop flowRowStarts flowRowTops flowRowFault snow melting
+refused-fed =
+    let none : Lent = record { count = 0; columns = zeros 0 } in
+    let not = melting-lent .5 in
+    Fed.more {call = start (meltingFor 0) (0 ∷ []) 3000} (λ t. melting-lent .0)
+    (Fed.more {call = start none [] 3000} (λ t. absurd (not .0 t))
+    (Fed.more {call = step (zeros 0 .numbers) none [] (noWork 0) 3000 4} (λ t. absurd (not .1 .0 t))
+    (Fed.more {call = report none 1} (λ t. absurd (not .1 .1 .0 t)) steps-fed)))
+
+-- the start that a list of the claim begins with
+demand-3-of : (calls : List Call) → Fed melting (noState 2) (start (meltingFor 0) (0 ∷ []) 3000 ∷ calls) → Demand3 →
+    Holds melting (noState 2) (start (meltingFor 0) (0 ∷ []) 3000 ∷ calls)
+unfolding meltingCalls
+demand-3-of calls fed claim =
+    claim melting 0 (reachOf (λ k. 0) ∷ []) (zeros 2) (loaded melting) (melting-told .0) (noState 2) (meltingFor 0) (0 ∷ []) 3000 calls (melting-lent .4 .0) fed
+
+-- what it says of the accepted ones
+melting-near : Holds melting (noState 2) meltingCalls → (q : Exact) × ExactRun melting noRiver (events (noState 2) meltingCalls) q × (q .n ≡ 2)
+    × Near (6 * 2) (loadedSegments melting 0) (figuresOf (segmentCount melting) (run (noState 2) meltingCalls)) (q .now)
+melting-near holds =
+    let q = holds .exists .0 in
+    let run = holds .exists .1 in
+    let n : q .n ≡ 2 = sym (holds .counted q run) ∙ melting-told .2 in
+    (q, run, n, rw n at (holds .near q run))
 
 pub demand-3-met : Demand3Met
-unfolding meltingCalls
-demand-3-met =
-    let lent = melting-lent in
-    record {
-      accepted = lent .5;
-      fed = melting-fed;
-      says = λ claim.
-          claim melting 0 (reachOf (λ k. 0) ∷ []) (zeros 2) (loaded melting) (lent .4) (noState 2) (meltingFor 0) (0 ∷ []) 3000 meltingSteps (lent .5 .0) melting-fed;
-    }
+unfolding meltingCalls meltingFor
+demand-3-met = record {
+  allAccepted = melting-lent .4;
+  fed = melting-fed;
+  allRefused = melting-lent .5;
+  fedRefused = refused-fed;
+  says = λ claim. melting-near (demand-3-of meltingSteps melting-fed claim);
+  saysReport = λ claim.
+      let told = melting-told .4 in
+      (told .0, told .1, demand-3-of meltingSteps melting-fed claim .reports (meltingFor 2) 2 (told .0) (melting-lent .3) (told .1));
+  saysRefused = λ claim. demand-3-of (refusedCalls ++ meltingSteps) refused-fed claim;
+}
+
+pub lent-bench : LentBench
+lent-bench sheet state lent = (λ loaded highest u. loaded, λ loaded number. loaded, λ old pair highest working u′ M. pair)
 
 -- ---- demand 3: its conclusion
 
@@ -111,21 +161,25 @@ module _ {fs gs : List ExactFigures} {before before′ : List (List ExactFigures
 as-many : {fs : List ExactFigures} {before : List (List ExactFigures)} → SamePast (fs ∷ before) [] → ⊥
 as-many = elim [ ]
 
-storage-same : {f g : ExactFigures} {fs gs : List ExactFigures} → SameFigures (f ∷ fs) (g ∷ gs) → Same (f .z) (g .z)
-storage-same (SameFigures.cons c z w more) = z
+module _ {f g : ExactFigures} {fs gs : List ExactFigures} where
+  -- the first segment, and the others
+  first-same : SameFigures (f ∷ fs) (g ∷ gs) → (Same (f .c) (g .c)) × (Same (f .z) (g .z)) × (Same (f .w) (g .w))
+  first-same (SameFigures.cons c z w more) = (c, z, w)
+
+  others-same : SameFigures (f ∷ fs) (g ∷ gs) → SameFigures fs gs
+  others-same (SameFigures.cons c z w more) = more
 
 pub same-past-bench : SamePastBench
 unfolding exactly halves
 same-past-bench =
-    let same = SameFigures.cons refl refl refl SameFigures.none in (
+    let same = SameFigures.cons refl refl refl (SameFigures.cons refl refl refl SameFigures.none) in (
       SamePast.cons same (SamePast.cons same SamePast.none),
-      λ s. differ (storage-same (latest-same s)),
-      λ s. differ (storage-same (latest-same (before-same s))),
+      λ s. let e = ap natAbs (first-same (others-same (latest-same s)) .0) in omega arith,
+      λ s. let e = ap natAbs (first-same (others-same (latest-same s)) .1) in omega arith,
+      λ s. let e = ap natAbs (first-same (others-same (latest-same s)) .2) in omega arith,
+      λ s. let e = ap natAbs (first-same (others-same (latest-same (before-same s))) .1) in omega arith,
       λ s. as-many (before-same s),
     )
-  where
-    differ : pos 4000 ≡ pos 4001 → ⊥
-    differ e = absurd (omega (arith, ap natAbs e))
 
 -- the first segment's e in a set of the step
 first-e : List Numbers → ℕ
@@ -139,17 +193,80 @@ pair-bench = (
   λ p. let e = ap (λ (xs : List Segment). first-e (map (λ x. x .numbers) xs)) (p .after .segments) in omega arith,
 )
 
+-- the flow in force at steps 0 and 1
+in-force : (flowInForce melting 0 ≡ 0) × (flowInForce melting 1 ≡ 1)
+unfolding accepts after run meltingFor meltingStep meltingSteps meltingCalls noState lowestFrom lowest anyShorter notRising nearest floorDiv outside anyOutside startsWith field headerField sectionEnd rowCountAt gaugeCountAt sheetEnd recordField reachFields reachOf reachOn reaches rowStarts rowConcentrations gauges totalSegments segmentCount alongRiver courseOf reachAt ownGain gain flow discharge ad isLast adAbove adBelow eOf gOf rateOf numbers loadedSegment P N F R rowOf newStorage newSediment newFigures downward stepped segmentAt writeSegments figuresAt writeFigures unmarked walk startsLate rowFault gaugeFault flowFault faceFault sumFault sheetTests courseTests listTests loadTests loaded loadAnswer loadColumns blocksFault riverFault segmentFault figureFault startFault stateFault heldFault startTests startAnswer startState stepTests stepAnswer stepState reportTests reported reportAnswer bytes allBytes zeros noWork topOf sections hasFlowRows flowRowCountAt flowRowCount testFlows numbersFault numbersAt oldFault pairAt lastBegun flowInForce flowRowStart flowRowTop flowRowStarts flowRowTops flowRowFault snow melting
+in-force = (refl, refl)
+
+pub left-bench : LeftBench
+unfolding first-e accepts after run meltingFor meltingStep meltingSteps meltingCalls noState lowestFrom lowest anyShorter notRising nearest floorDiv outside anyOutside startsWith field headerField sectionEnd rowCountAt gaugeCountAt sheetEnd recordField reachFields reachOf reachOn reaches rowStarts rowConcentrations gauges totalSegments segmentCount alongRiver courseOf reachAt ownGain gain flow discharge ad isLast adAbove adBelow eOf gOf rateOf numbers loadedSegment P N F R rowOf newStorage newSediment newFigures downward stepped segmentAt writeSegments figuresAt writeFigures unmarked walk startsLate rowFault gaugeFault flowFault faceFault sumFault sheetTests courseTests listTests loadTests loaded loadAnswer loadColumns blocksFault riverFault segmentFault figureFault startFault stateFault heldFault startTests startAnswer startState stepTests stepAnswer stepState reportTests reported reportAnswer bytes allBytes zeros noWork topOf sections hasFlowRows flowRowCountAt flowRowCount testFlows numbersFault numbersAt oldFault pairAt lastBegun flowInForce flowRowStart flowRowTop flowRowStarts flowRowTops flowRowFault snow melting
+left-bench = (
+  λ l. let e = ap first-e (l .set) in omega arith,
+  λ l. let e = ap first-e (l .set) in omega arith,
+  λ l. let e = l .known in omega arith,
+)
+
+pub figures-bench : FiguresBench
+unfolding listed listedColumns listedState accepts after run meltingFor meltingStep meltingSteps meltingCalls noState lowestFrom lowest anyShorter notRising nearest floorDiv outside anyOutside startsWith field headerField sectionEnd rowCountAt gaugeCountAt sheetEnd recordField reachFields reachOf reachOn reaches rowStarts rowConcentrations gauges totalSegments segmentCount alongRiver courseOf reachAt ownGain gain flow discharge ad isLast adAbove adBelow eOf gOf rateOf numbers loadedSegment P N F R rowOf newStorage newSediment newFigures downward stepped segmentAt writeSegments figuresAt writeFigures unmarked walk startsLate rowFault gaugeFault flowFault faceFault sumFault sheetTests courseTests listTests loadTests loaded loadAnswer loadColumns blocksFault riverFault segmentFault figureFault startFault stateFault heldFault startTests startAnswer startState stepTests stepAnswer stepState reportTests reported reportAnswer bytes allBytes zeros noWork topOf sections hasFlowRows flowRowCountAt flowRowCount testFlows numbersFault numbersAt oldFault pairAt lastBegun flowInForce flowRowStart flowRowTop flowRowStarts flowRowTops flowRowFault snow melting
+figures-bench = (
+  record { first = lit≤ tt; last = lit≤ tt; channel = refl; storage = refl; sediment = refl },
+  λ f. let e = f .first in omega arith,
+  λ f. let e = f .last in omega arith,
+  λ f. let e = f .channel in omega arith,
+  λ f. let e = f .storage in omega arith,
+  λ f. let e = f .sediment in omega arith,
+)
+
+-- ---- what a loading leaves
+
+pub loaded-lists-met : LoadedListsMet
+unfolding meltingFor
+loaded-lists-met = record {
+  loads = melting-told .1;
+  left = λ claim. rw (melting-told .3) at (claim .left melting 2 (reachOf (λ k. 0) ∷ []) (zeros 2) (loaded melting) (melting-told .1));
+  pairs = λ claim.
+      let all = reachOf (λ k. 0) ∷ [] in
+      rw (in-force .0, in-force .1, melting-told .3) at (claim .pairs melting 0 2 all all (zeros 2) (zeros 2) (loaded melting) (loaded melting) (melting-told .0) (melting-told .1) 0 .2);
+}
+
 -- ---- several rivers: a pool with none open
 
 pub all-closed : NoneOpen allClosed
 unfolding allClosed
 all-closed = record { slots = refl; closed = λ i h. rw (getD-replicate 8 i vacant vacant h) refl }
 
--- ---- the search
+-- what the opening of `melting` answers and leaves
+melting-opens : (openAnswer melting 0 1 (zeros 2) allClosed 1 (0 ∷ []) 3000 ≡ accepted (loaded melting)) × (loadAnswer melting 1 1 (zeros 2) ≡ accepted (loaded melting))
+unfolding anyBelow sumBelow openSegments roomFault tableFault sharedFault openTests openAnswer openColumns allClosed openAt tableOf poolWith accepts after run meltingFor meltingStep meltingSteps meltingCalls noState lowestFrom lowest anyShorter notRising nearest floorDiv outside anyOutside startsWith field headerField sectionEnd rowCountAt gaugeCountAt sheetEnd recordField reachFields reachOf reachOn reaches rowStarts rowConcentrations gauges totalSegments segmentCount alongRiver courseOf reachAt ownGain gain flow discharge ad isLast adAbove adBelow eOf gOf rateOf numbers loadedSegment P N F R rowOf newStorage newSediment newFigures downward stepped segmentAt writeSegments figuresAt writeFigures unmarked walk startsLate rowFault gaugeFault flowFault faceFault sumFault sheetTests courseTests listTests loadTests loaded loadAnswer loadColumns blocksFault riverFault segmentFault figureFault startFault stateFault heldFault startTests startAnswer startState stepTests stepAnswer stepState reportTests reported reportAnswer bytes allBytes zeros noWork topOf sections hasFlowRows flowRowCountAt flowRowCount testFlows numbersFault numbersAt oldFault pairAt lastBegun flowInForce flowRowStart flowRowTop flowRowStarts flowRowTops flowRowFault snow melting
+melting-opens = (refl, refl)
 
--- two answers of different kinds are not the same
-differ : _≡_ {A = ℕ} 0 1 → ⊥
-differ e = absurd (omega arith)
+pub opened-lists-met : OpenedListsMet
+unfolding meltingFor
+opened-lists-met = record {
+  opens = melting-opens .0;
+  left = λ claim. rw (melting-told .3) at (claim .left melting 0 1 (zeros 2) allClosed 1 (0 ∷ []) 3000 (loaded melting) (melting-opens .0));
+  pairs = λ claim.
+      rw (in-force .0, in-force .1, melting-told .3) at
+      (claim .pairs melting 0 1 1 1 (zeros 2) (zeros 2) allClosed 1 (0 ∷ []) 3000 (loaded melting) (loaded melting) (melting-opens .0) (melting-opens .1) 0 .2);
+}
+
+-- rivers 1 and 2 overlap
+abbrev overlapping : Pool
+overlapping = poolWith (tableOf (openAt 0 2) (openAt 1 1) vacant) 1024
+
+refused-18 : (openAnswer melting 0 1 (zeros 2) overlapping 3 (0 ∷ []) 3000 ≡ refused 18 nothing)
+    × (openAnswer melting 0 1 (zeros 2) (vacated overlapping) 3 (0 ∷ []) 3000 ≡ accepted (loaded melting))
+unfolding anyBelow sumBelow openSegments roomFault tableFault sharedFault openTests openAnswer openColumns allClosed openAt tableOf poolWith accepts after run meltingFor meltingStep meltingSteps meltingCalls noState lowestFrom lowest anyShorter notRising nearest floorDiv outside anyOutside startsWith field headerField sectionEnd rowCountAt gaugeCountAt sheetEnd recordField reachFields reachOf reachOn reaches rowStarts rowConcentrations gauges totalSegments segmentCount alongRiver courseOf reachAt ownGain gain flow discharge ad isLast adAbove adBelow eOf gOf rateOf numbers loadedSegment P N F R rowOf newStorage newSediment newFigures downward stepped segmentAt writeSegments figuresAt writeFigures unmarked walk startsLate rowFault gaugeFault flowFault faceFault sumFault sheetTests courseTests listTests loadTests loaded loadAnswer loadColumns blocksFault riverFault segmentFault figureFault startFault stateFault heldFault startTests startAnswer startState stepTests stepAnswer stepState reportTests reported reportAnswer bytes allBytes zeros noWork topOf sections hasFlowRows flowRowCountAt flowRowCount testFlows numbersFault numbersAt oldFault pairAt lastBegun flowInForce flowRowStart flowRowTop flowRowStarts flowRowTops flowRowFault snow melting
+refused-18 = (refl, refl)
+
+pub opens-alone-bench : OpensAloneBench
+opens-alone-bench opens =
+    ⊎-elim
+    (λ q. let e : refused 18 nothing ≡ refused 17 nothing = sym (refused-18 .0) ∙ q .0 in let n : _≡_ {A = ℕ} 18 17 = cc in absurd (omega arith))
+    (λ q. let e : refused 18 nothing ≡ accepted (loaded melting) = sym (refused-18 .0) ∙ q ∙ refused-18 .1 in differ cc)
+    (opens melting 0 1 (zeros 2) (0 ∷ []) 3000)
+
+-- ---- the search
 
 -- the figures of the bench
 abbrev figures : List ℕ

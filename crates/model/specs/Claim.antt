@@ -91,9 +91,10 @@ pub record LoadedLists : Type 0 where
   pub flows : (sheet : List ℕ) (r : ℕ) (records : List Reach) (columns : Columns) (v : Loaded) →
       loadAnswer sheet r (length records) columns ≡ accepted v →
       (other : ℕ) → other ≤ flowRowCount sheet → loadAnswer sheet other (length records) columns ≡ accepted v
-  -- and what two loadings leave, for the flows in force at steps n and n + 1, is the pair of the step from n to n + 1
-  pub pairs : (sheet : List ℕ) (n : ℕ) (records records′ : List Reach) (columns columns′ : Columns) (v v′ : Loaded) →
-      loadAnswer sheet (flowInForce sheet n) (length records) columns ≡ accepted v →
-      loadAnswer sheet (flowInForce sheet (suc n)) (length records′) columns′ ≡ accepted v′ →
-      PairAsLoaded sheet n (loadColumns sheet (flowInForce sheet n) (length records) columns .numbers)
+  -- so the loadings for the flows in force at steps n and n + 1 are accepted, and what they leave is the pair of the step from n to n + 1
+  pub pairs : (sheet : List ℕ) (r r′ : ℕ) (records records′ : List Reach) (columns columns′ : Columns) (v v′ : Loaded) →
+      loadAnswer sheet r (length records) columns ≡ accepted v → loadAnswer sheet r′ (length records′) columns′ ≡ accepted v′ → (n : ℕ) →
+      (loadAnswer sheet (flowInForce sheet n) (length records) columns ≡ accepted v)
+      × (loadAnswer sheet (flowInForce sheet (suc n)) (length records′) columns′ ≡ accepted v′)
+      × PairAsLoaded sheet n (loadColumns sheet (flowInForce sheet n) (length records) columns .numbers)
       (record { count = v′ .segments; columns = loadColumns sheet (flowInForce sheet (suc n)) (length records′) columns′ })

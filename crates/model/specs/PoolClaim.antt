@@ -110,13 +110,15 @@ pub record OpenedLists : Type 0 where
   pub left : (sheet : List ℕ) (r records : ℕ) (columns : Columns) (pool : Pool) (number : ℕ) (highest : List ℕ) (u : ℕ) (v : Loaded) →
       openAnswer sheet r records columns pool number highest u ≡ accepted v →
       LeftFor sheet r (v .segments) (openColumns sheet r records columns pool number highest u)
-  -- every flow of its sheet can be loaded
+  -- one that is accepted for one flow of the sheet is accepted for each of them, and so is the loading
   pub flows : (sheet : List ℕ) (r records : ℕ) (columns : Columns) (pool : Pool) (number : ℕ) (highest : List ℕ) (u : ℕ) (v : Loaded) →
-      openAnswer sheet r records columns pool number highest u ≡ accepted v →
-      (other : ℕ) → other ≤ flowRowCount sheet → loadAnswer sheet other records columns ≡ accepted v
-  -- what an opening for the flow in force at step n and a loading for that at n + 1 leave is the pair of the step from n to n + 1
-  pub pairs : (sheet : List ℕ) (n records records′ : ℕ) (columns columns′ : Columns) (pool : Pool) (number : ℕ) (highest : List ℕ) (u : ℕ) (v v′ : Loaded) →
-      openAnswer sheet (flowInForce sheet n) records columns pool number highest u ≡ accepted v →
-      loadAnswer sheet (flowInForce sheet (suc n)) records′ columns′ ≡ accepted v′ →
-      PairAsLoaded sheet n (openColumns sheet (flowInForce sheet n) records columns pool number highest u .numbers)
+      openAnswer sheet r records columns pool number highest u ≡ accepted v → (other : ℕ) → other ≤ flowRowCount sheet →
+      (openAnswer sheet other records columns pool number highest u ≡ accepted v) × (loadAnswer sheet other records columns ≡ accepted v)
+  -- so the opening for the flow in force at step n and the loading for that at n + 1 are accepted, and what they leave is the pair of the step from n
+  -- to n + 1
+  pub pairs : (sheet : List ℕ) (r r′ records records′ : ℕ) (columns columns′ : Columns) (pool : Pool) (number : ℕ) (highest : List ℕ) (u : ℕ) (v v′ : Loaded) →
+      openAnswer sheet r records columns pool number highest u ≡ accepted v → loadAnswer sheet r′ records′ columns′ ≡ accepted v′ → (n : ℕ) →
+      (openAnswer sheet (flowInForce sheet n) records columns pool number highest u ≡ accepted v)
+      × (loadAnswer sheet (flowInForce sheet (suc n)) records′ columns′ ≡ accepted v′)
+      × PairAsLoaded sheet n (openColumns sheet (flowInForce sheet n) records columns pool number highest u .numbers)
       (record { count = v′ .segments; columns = loadColumns sheet (flowInForce sheet (suc n)) records′ columns′ })

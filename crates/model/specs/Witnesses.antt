@@ -2,29 +2,31 @@
 -- pool_laws/proofs/Witnesses those of calls on a pool, which take longer to work out.
 use mathlib.Core.Path.{_≡_}
 use mathlib.Core.Bool.{true}
-use mathlib.Core.List.{List, [], _∷_}
+use mathlib.Core.List.{List, [], _∷_, _++_}
 use mathlib.Core.Option.{Option, none, some}
 use Prim.Native.Nat.{ℕ, _*_}
 use native.Mathlib.Omega.{arith}
 use lib.Dec.{T}
 use lib.IntN.{pos}
 use lib.ListN.{replicate, take}
-use Rattle.fractions.specs.Fractions.{whole}
+use Rattle.fractions.specs.Fractions.{Fraction, whole}
+use Rattle.model.specs.Sheet.{segmentCount}
 use Rattle.model.specs.HalfStep.{Segment}
 use Rattle.model.specs.ExactRiver.{ExactFigures}
-use Rattle.model.specs.State.{State, segmentAt}
-use Rattle.model.specs.Refusals.{nothing, Outcome, accepted, refused}
-use Rattle.model.specs.Load.{loadColumns}
+use Rattle.model.specs.State.{NumberSet, segmentAt, loadedSegments, State, figuresOf}
+use Rattle.model.specs.Refusals.{nothing, Outcome, accepted, refused, passes, fails}
+use Rattle.model.specs.Load.{loaded, loadAnswer, loadColumns}
+use Rattle.model.specs.Calls.{Working, Reported, reportAnswer}
 use Rattle.model.specs.Search.{SearchAnswer, Tells}
-use Rattle.model.specs.Runs.{Lent, Call, start, step, report, accepts, after, run, PairAsLoaded, Fed}
-use Rattle.model.specs.Claim.{SamePast, Near, Holds, Demand3}
-use Rattle.model.specs.Pool.{isOpen, vacant, slotOf, Pool, stateOf, PoolSearchAnswer}
+use Rattle.model.specs.Runs.{Lent, Call, start, step, report, accepts, after, run, AsLoaded, PairAsLoaded, LentFrom, Fed, events, Exact, noRiver, ExactRun}
+use Rattle.model.specs.Claim.{SamePast, Near, FiguresOf, Holds, Demand3, LeftFor, LoadedLists}
+use Rattle.model.specs.Pool.{isOpen, vacant, slotOf, Pool, stateOf, openAnswer, openColumns, poolStartAnswer, poolStepAnswer, poolReportAnswer, PoolSearchAnswer, closeFinding}
 use Rattle.model.specs.PoolRuns.{PoolCall, opening, stepping, reporting, closing, poolAccepts, afterCall, runPool, Own, ownSince, highestSince}
-use Rattle.model.specs.PoolClaim.{NoneOpen, NotOpen, AsAlone, Opened, Sharing}
+use Rattle.model.specs.PoolClaim.{NoneOpen, OpensAlone, NotOpen, AsAlone, Opened, Sharing, OpenedLists}
 use Rattle.model.specs.SearchClaim.{Left, leftSince, SearchTold, PoolSearchTold}
-use Rattle.model.specs.Bench.{zeros, noState, noWork}
+use Rattle.model.specs.Bench.{zeros, noState, noWork, listed, listedState}
 use Rattle.model.specs.FlowBench.{melting}
-use Rattle.model.specs.PoolBench.{sheetWithStart}
+use Rattle.model.specs.PoolBench.{openAt, tableOf, poolWith, sheetWithStart}
 
 -- ---- demand 3: its premises
 
@@ -48,11 +50,38 @@ abbrev pub AllAccepted : State → List Call → Type 0
 AllAccepted state [] = Unit {0}
 AllAccepted state (call ∷ calls) = T (accepts state call) × AllAccepted (after state call) calls
 
--- the list is one that demand 3 speaks of, none of its calls being refused
+-- a start, a step and a report that are lent nothing
+unfoldable pub refusedCalls : List Call
+refusedCalls =
+    let none : Lent = record { count = 0; columns = zeros 0 } in
+    start none [] 3000 ∷ step (zeros 0 .numbers) none [] (noWork 0) 3000 4 ∷ report none 1 ∷ []
+
+-- every call of a list is refused, in the state that those before it leave
+abbrev pub AllRefused : State → List Call → Type 0
+AllRefused state [] = Unit {0}
+AllRefused state (call ∷ calls) = (T (accepts state call) → ⊥) × AllRefused (after state call) calls
+
+-- the lists of calls that demand 3 speaks of: all accepted, or refused ones between. Of the first it says that there is an exact river, n is 2, and the
+-- figures are near it; and that the report gives them
 pub record Demand3Met : Type 0 where
-  pub accepted : AllAccepted (noState 2) meltingCalls
+  pub allAccepted : AllAccepted (noState 2) meltingCalls
   pub fed : Fed melting (noState 2) meltingCalls
-  pub says : Demand3 → Holds melting (noState 2) meltingCalls
+  pub allRefused : AllRefused (after (noState 2) (start (meltingFor 0) (0 ∷ []) 3000)) refusedCalls
+  pub fedRefused : Fed melting (noState 2) (start (meltingFor 0) (0 ∷ []) 3000 ∷ refusedCalls ++ meltingSteps)
+  pub says : Demand3 → (q : Exact) × ExactRun melting noRiver (events (noState 2) meltingCalls) q × (q .n ≡ 2)
+      × Near (6 * 2) (loadedSegments melting 0) (figuresOf (segmentCount melting) (run (noState 2) meltingCalls)) (q .now)
+  pub saysReport : Demand3 → (v : Reported) × (reportAnswer 2 (meltingFor 2 .columns) (run (noState 2) meltingCalls) 2 ≡ accepted v)
+      × FiguresOf melting (run (noState 2) meltingCalls) 2 v
+  pub saysRefused : Demand3 → Holds melting (noState 2) (start (meltingFor 0) (0 ∷ []) 3000 ∷ refusedCalls ++ meltingSteps)
+
+-- what is asked that accepted calls are lent is what a loading leaves and no more, whatever the state and whatever is handed with it
+abbrev pub LentBench : Type 0
+LentBench =
+    (sheet : List ℕ) (state : State) (lent : Lent) →
+    (AsLoaded sheet lent → (highest : List ℕ) (u : ℕ) → LentFrom sheet state (start lent highest u))
+    × (AsLoaded sheet lent → (number : ℕ) → LentFrom sheet state (report lent number))
+    × ((old : NumberSet) → PairAsLoaded sheet (state .steps) old lent → (highest : List ℕ) (working : Working) (u′ M : ℕ) →
+    LentFrom sheet state (step old lent highest working u′ M))
 
 -- ---- demand 3: its conclusion
 
@@ -63,7 +92,7 @@ kd2 = let x = segmentAt (record { numbers = zeros 1 .numbers; cl = []; cb = []; 
 unfoldable pub exactly : ExactFigures
 exactly = record { c = whole 1000; z = whole 2000; w = whole 3000 }
 
--- after one step a state is near them whose first segment has these figures, and whose second has those
+-- after one step a state is near them whose two segments have the figures c, z, w and c′, z′, w′
 abbrev pub NearAt1 : (c z w c′ z′ w′ : ℕ) → Type 0
 NearAt1 c z w c′ z′ w′ =
     Near (6 * 1) kd2 (record { c = c; z = z; w = w } ∷ record { c = c′; z = z′; w = w′ } ∷ []) (exactly ∷ exactly ∷ [])
@@ -81,17 +110,51 @@ NearBench =
     × (NearAt1 1000 2000 3000 1007 2000 3000 → ⊥)
     × (NearAt1 1000 2000 3000 1000 2000 2993 → ⊥)
 
--- the figures of one segment, its storage figure as the fraction k/2
-unfoldable pub halves : (k : ℕ) → List ExactFigures
-halves k = record { c = whole 1000; z = record { num = pos k; den = 2; above = omega arith }; w = whole 3000 } ∷ []
+-- the figures of two segments in halves: 1,000, 2,000 and 3,000, and of the second these
+unfoldable pub halves : (c z w : ℕ) → List ExactFigures
+halves c z w =
+    let half : ℕ → Fraction = λ k. record { num = pos k; den = 2; above = omega arith } in
+    record { c = half 2000; z = half 4000; w = half 6000 } ∷ record { c = half c; z = half z; w = half w } ∷ []
 
--- 2,000 is 4,000/2 and not 4,001/2, at the latest step and at one before; as many steps are asked for
+-- at two steps, the exact figures above and these
+abbrev pub SameAt : (latest before : List ExactFigures) → Type 0
+SameAt latest before = SamePast ((exactly ∷ exactly ∷ []) ∷ (exactly ∷ exactly ∷ []) ∷ []) (latest ∷ before ∷ [])
+
+-- 2,000 is 4,000/2; 1,000 is not 2,001/2, nor are the others, at the latest of the steps before or at the one before it; as many steps are asked for
 abbrev pub SamePastBench : Type 0
 SamePastBench =
-    SamePast ((exactly ∷ []) ∷ (exactly ∷ []) ∷ []) (halves 4000 ∷ halves 4000 ∷ [])
-    × (SamePast ((exactly ∷ []) ∷ (exactly ∷ []) ∷ []) (halves 4001 ∷ halves 4000 ∷ []) → ⊥)
-    × (SamePast ((exactly ∷ []) ∷ (exactly ∷ []) ∷ []) (halves 4000 ∷ halves 4001 ∷ []) → ⊥)
-    × (SamePast ((exactly ∷ []) ∷ (exactly ∷ []) ∷ []) (halves 4000 ∷ []) → ⊥)
+    SameAt (halves 2000 4000 6000) (halves 2000 4000 6000)
+    × (SameAt (halves 2001 4000 6000) (halves 2000 4000 6000) → ⊥)
+    × (SameAt (halves 2000 4001 6000) (halves 2000 4000 6000) → ⊥)
+    × (SameAt (halves 2000 4000 6001) (halves 2000 4000 6000) → ⊥)
+    × (SameAt (halves 2000 4000 6000) (halves 2000 4001 6000) → ⊥)
+    × (SamePast ((exactly ∷ exactly ∷ []) ∷ (exactly ∷ exactly ∷ []) ∷ []) (halves 2000 4000 6000 ∷ []) → ⊥)
+
+-- what a report of the listing's river may give after step 1: the figures of its line, and no other, nor those of a segment that there is not
+abbrev pub FiguresBench : Type 0
+FiguresBench =
+    let Gives : (number c z kdw : ℕ) → Type 0 = λ number c z kdw. FiguresOf listed (listedState 1) number (record { channel = c; storage = z; sediment = kdw }) in
+    Gives 1 2000 400 1334
+    × (Gives 0 2000 400 1334 → ⊥)
+    × (Gives 2 0 0 0 → ⊥)
+    × (Gives 1 2001 400 1334 → ⊥)
+    × (Gives 1 2000 401 1334 → ⊥)
+    × (Gives 1 2000 400 1333 → ⊥)
+
+-- ---- what a loading leaves
+
+-- of a sheet that is accepted: for the step from 0 to 1, over a flow row
+pub record LoadedListsMet : Type 0 where
+  pub loads : loadAnswer melting 2 1 (zeros 2) ≡ accepted (loaded melting)
+  pub left : LoadedLists → LeftFor melting 2 2 (meltingFor 2 .columns)
+  pub pairs : LoadedLists → PairAsLoaded melting 0 (meltingFor 0 .columns .numbers) (meltingFor 1)
+
+-- lists of zeros are not what it leaves, nor are those of another flow, nor of a flow that there is not
+abbrev pub LeftBench : Type 0
+LeftBench =
+    (LeftFor melting 0 2 (zeros 2) → ⊥)
+    × (LeftFor melting 1 2 (meltingFor 0 .columns) → ⊥)
+    × (LeftFor melting 3 2 (meltingFor 3 .columns) → ⊥)
 
 -- what the step from 0 to 1 is to be lent is neither flow 1 on both sides nor flow 0 on both
 abbrev pub PairBench : Type 0
@@ -129,13 +192,25 @@ AllAcceptedOn pool (call ∷ calls) = T (poolAccepts pool call) × AllAcceptedOn
 unfoldable pub river1 : Own
 river1 = record { sheet = melting; lent = meltingFor 0; highest = 0 ∷ []; u = 3000; since = meltingSteps }
 
--- the list is one that `Sharing` speaks of, none of its calls being refused: of river 1, which is open, and of river 2, which is not
+-- the list is one that `Sharing` speaks of, none of its calls being refused. Of river 1, which is open, it gives demand 3 of its own calls and that it can be
+-- closed; of river 2, which is closed, that its calls are refused 18; of an opening under number 2 that it is answered as with none open, or refused 17
 pub record SharingMet : Type 0 where
   pub noneOpen : NoneOpen allClosed
-  pub accepted : AllAcceptedOn allClosed poolCalls
+  pub allAccepted : AllAcceptedOn allClosed poolCalls
   pub own : ownSince 1 allClosed poolCalls none ≡ some river1
-  pub says : Sharing → Holds melting (noState 2) meltingCalls
-  pub saysClosed : Sharing → NotOpen (runPool allClosed poolCalls) 2
+  pub says : Sharing → Holds melting (noState 2) meltingCalls × (closeFinding (runPool allClosed poolCalls .table) 1 ≡ passes)
+  pub saysClosed : Sharing → let pool = runPool allClosed poolCalls in
+      (poolStartAnswer pool 2 (zeros 3) (0 ∷ []) 0 ≡ refused 18 nothing)
+      × (poolStepAnswer pool 2 (zeros 3 .numbers) (zeros 3) (0 ∷ []) (noWork 3) 0 1 ≡ refused 18 nothing)
+      × (poolReportAnswer pool 2 (zeros 3) 1 ≡ refused 18 nothing)
+      × (closeFinding (pool .table) 2 ≡ fails 18 nothing)
+  pub saysOpening : Sharing → OpensAlone (runPool allClosed poolCalls) 2
+
+-- `OpenedLists` of its opening of river 1
+pub record OpenedListsMet : Type 0 where
+  pub opens : openAnswer melting 0 1 (zeros 2) allClosed 1 (0 ∷ []) 3000 ≡ accepted (loaded melting)
+  pub left : OpenedLists → LeftFor melting 0 2 (openColumns melting 0 1 (zeros 2) allClosed 1 (0 ∷ []) 3000)
+  pub pairs : OpenedLists → PairAsLoaded melting 0 (openColumns melting 0 1 (zeros 2) allClosed 1 (0 ∷ []) 3000 .numbers) (meltingFor 1)
 
 -- ---- several rivers: the conclusion
 
@@ -147,10 +222,14 @@ ShownBench =
     × ((own : Own) → Opened pool 2 own → ⊥)
     × (AsAlone pool 1 (record { sheet = melting; lent = meltingFor 0; highest = 0 ∷ []; u = 3000; since = take 1 meltingSteps }) (noState 2) → ⊥)
 
+-- in a table whose rivers overlap an opening is refused 18, which with none open it is not: this is shut out
+abbrev pub OpensAloneBench : Type 0
+OpensAloneBench = OpensAlone (poolWith (tableOf (openAt 0 2) (openAt 1 1) vacant) 1024) 3 → ⊥
+
 -- ---- the search
 
 -- "every choice is a segment of the river above the limit, in such a block": of 5, 9 and 2 with limit 6 the second segment is one, the others and one
--- behind the river are not, nor is none, nor a refusal; where its block lies, none is the answer, and the second segment is not
+-- behind the river are not, nor is none, nor a refusal; where its block's highest figure is not above the limit, none is the answer, and the second segment is not
 abbrev pub SearchAnswersBench : Type 0
 SearchAnswersBench =
     let Answers : (highest : ℕ) → Outcome (Option ℕ) → Type 0 = λ highest answer. SearchAnswer 3 (5 ∷ 9 ∷ 2 ∷ 8 ∷ []) (highest ∷ []) 6 answer in

@@ -49,12 +49,15 @@ pub sharing-met : SharingMet
 unfolding river1 meltingCalls noState meltingFor
 sharing-met = record {
   noneOpen = all-closed;
-  accepted = pool-calls .0;
+  allAccepted = pool-calls .0;
   own = pool-calls .1;
   says = λ claim.
       let opened = rw (pool-calls .1) at (claim allClosed all-closed poolCalls 1 .0) in
-      opened .alone (noState 2) (record { channel = refl; storage = refl; sediment = refl }) .demand3 (later melting-fed);
-  saysClosed = λ claim. rw (pool-calls .2) at (claim allClosed all-closed poolCalls 2 .0);
+      (opened .alone (noState 2) (record { channel = refl; storage = refl; sediment = refl }) .demand3 (later melting-fed), opened .closes);
+  saysClosed = λ claim.
+      let closed = rw (pool-calls .2) at (claim allClosed all-closed poolCalls 2 .0) in
+      (closed .starts (zeros 3) (0 ∷ []) 0, closed .steps (zeros 3 .numbers) (zeros 3) (0 ∷ []) (noWork 3) 0 1, closed .reports (zeros 3) 1, closed .closes);
+  saysOpening = λ claim. claim allClosed all-closed poolCalls 2 .1;
 }
 
 -- river 1 on the pool, and the highest figures that it was left
