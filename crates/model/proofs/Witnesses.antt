@@ -42,59 +42,129 @@ use Rattle.model.proofs.Search.{finds-none, finds-some}
 differ : _≡_ {A = ℕ} 0 1 → ⊥
 differ e = absurd (omega arith)
 
+-- the search that names the first segment, where this is above the limit in a block that is
+pub names-first : (tests : List Finding) (n : ℕ) (channel highest : List ℕ) (limit : ℕ) → first tests ≡ passes → Above n channel highest limit 0 →
+    Searches tests n channel highest limit (accepted (some 1))
+names-first tests n channel highest limit pass above =
+    record { found = some 1; finds = λ e. finds-some refl above; is = sym (outcome-passes tests (some 1) pass) }
+
+-- the first segment's e in a set
+first-e : List Numbers → ℕ
+first-e [] = 0
+first-e (x ∷ xs) = x .e
+
+-- a pool whose rivers 1 and 2 overlap
+abbrev overlapping : Pool
+overlapping = poolWith (tableOf (openAt 0 2) (openAt 1 1) vacant) 1024
+
+-- all that is worked out from the definitions at the figures of a case, at one place
+record WorkedOut : Type 0 where
+  -- the calls of demand 3: what they are lent, what they answer, and the refused ones between
+  starting : AsLoaded melting (meltingFor 0)
+  allAccepted : AllAccepted (noState 2) meltingCalls
+  allRefused : AllRefused (after (noState 2) (start (meltingFor 0) (0 ∷ []) 3000)) refusedCalls
+  fed : Fed melting (after (noState 2) (start (meltingFor 0) (0 ∷ []) 3000)) meltingSteps
+  fedRefused : Fed melting (after (noState 2) (start (meltingFor 0) (0 ∷ []) 3000)) (refusedCalls ++ meltingSteps)
+  -- the count after them, and a report
+  steps : run (noState 2) meltingCalls .steps ≡ 2
+  reporting : AsLoaded melting (meltingFor 2)
+  given : (v : Reported) × (reportAnswer 2 (meltingFor 2 .columns) (run (noState 2) meltingCalls) 2 ≡ accepted v)
+  -- the sheet's loadings and its opening
+  loads0 : loadAnswer melting 0 1 (zeros 2) ≡ accepted (loaded melting)
+  loads1 : loadAnswer melting 1 1 (zeros 2) ≡ accepted (loaded melting)
+  loads2 : loadAnswer melting 2 1 (zeros 2) ≡ accepted (loaded melting)
+  segments : loaded melting .segments ≡ 2
+  inForce0 : flowInForce melting 0 ≡ 0
+  inForce1 : flowInForce melting 1 ≡ 1
+  opens : openAnswer melting 0 1 (zeros 2) allClosed 1 (0 ∷ []) 3000 ≡ accepted (loaded melting)
+  overlaps : openAnswer melting 0 1 (zeros 2) overlapping 3 (0 ∷ []) 3000 ≡ refused 18 nothing
+  opensAlone : openAnswer melting 0 1 (zeros 2) (vacated overlapping) 3 (0 ∷ []) 3000 ≡ accepted (loaded melting)
+  -- what is shut out by its figures
+  pairs : PairBench
+  left : LeftBench
+  figures : FiguresBench
+  -- a search after the calls
+  search : SearchMet
+
+worked-out : WorkedOut
+unfolding refusedCalls accepts after run meltingFor meltingStep meltingSteps meltingCalls noState lowestFrom lowest anyShorter notRising nearest floorDiv outside anyOutside startsWith field headerField sectionEnd rowCountAt gaugeCountAt sheetEnd recordField reachFields reachOf reachOn reaches rowStarts rowConcentrations gauges totalSegments segmentCount alongRiver courseOf reachAt ownGain gain flow discharge ad isLast adAbove adBelow eOf gOf rateOf numbers loadedSegment P N F R rowOf newStorage newSediment newFigures downward stepped segmentAt writeSegments figuresAt writeFigures unmarked walk startsLate rowFault gaugeFault flowFault faceFault sumFault sheetTests courseTests listTests loadTests loaded loadAnswer loadColumns blocksFault riverFault segmentFault figureFault startFault stateFault heldFault startTests startAnswer startState stepTests stepAnswer stepState reportTests reported reportAnswer bytes allBytes zeros noWork topOf sections hasFlowRows flowRowCountAt flowRowCount testFlows numbersFault numbersAt oldFault pairAt lastBegun flowInForce flowRowStart flowRowTop flowRowStarts flowRowTops flowRowFault snow melting first-e listed listedColumns listedState anyBelow sumBelow openSegments roomFault tableFault sharedFault openTests openAnswer openColumns allClosed openAt tableOf poolWith leftSince searchTests highestBelow blockHighest startHighest stepHighest
+worked-out =
+    let pair0 : PairAsLoaded melting 0 (meltingFor 0 .columns .numbers) (meltingFor 1) = record { before = refl; after = record { count = refl; segments = refl } } in
+    let pair1 : PairAsLoaded melting 1 (meltingFor 1 .columns .numbers) (meltingFor 1) = record { before = refl; after = record { count = refl; segments = refl } } in
+    let report2 : AsLoaded melting (meltingFor 2) = record { flow = 2; known = lit≤ tt; lists = record { count = refl; segments = refl } } in
+    let fed : Fed melting (after (noState 2) (start (meltingFor 0) (0 ∷ []) 3000)) meltingSteps =
+    Fed.more {call = meltingStep 0 1} (λ t. pair0) (Fed.more {call = meltingStep 1 1} (λ t. pair1) (Fed.more {call = report (meltingFor 2) 2} (λ t. report2) Fed.none)) in
+    let none : Lent = record { count = 0; columns = zeros 0 } in
+    record {
+      starting = record { flow = 0; known = lit≤ tt; lists = record { count = refl; segments = refl } };
+      allAccepted = (tt, (tt, (tt, (tt, tt))));
+      allRefused = (λ t. t, (λ t. t, (λ t. t, tt)));
+      fed = fed;
+      fedRefused =
+          Fed.more {call = start none [] 3000} (λ t. absurd t)
+          (Fed.more {call = step (zeros 0 .numbers) none [] (noWork 0) 3000 4} (λ t. absurd t) (Fed.more {call = report none 1} (λ t. absurd t) fed));
+      steps = refl;
+      reporting = report2;
+      given = (_, refl);
+      loads0 = refl;
+      loads1 = refl;
+      loads2 = refl;
+      segments = refl;
+      inForce0 = refl;
+      inForce1 = refl;
+      opens = refl;
+      overlaps = refl;
+      opensAlone = refl;
+      pairs = (
+        λ p. let e = ap first-e (p .before) in omega arith,
+        λ p. let e = ap (λ (xs : List Segment). first-e (map (λ x. x .numbers) xs)) (p .after .segments) in omega arith,
+      );
+      left = (
+        λ l. let e = ap first-e (l .set) in omega arith,
+        λ l. let e = ap first-e (l .set) in omega arith,
+        λ l. let e = l .known in omega arith,
+      );
+      figures = (
+        record { first = lit≤ tt; last = lit≤ tt; channel = refl; storage = refl; sediment = refl },
+        λ f. let e = f .first in omega arith,
+        λ f. let e = f .last in omega arith,
+        λ f. let e = f .channel in omega arith,
+        λ f. let e = f .storage in omega arith,
+        λ f. let e = f .sediment in omega arith,
+      );
+      search =
+          let answers = names-first _ 2 (run (noState 2) meltingCalls .channel) _ 100 refl (record { inside = lit< tt; segment = lit< tt; block = lit< tt }) in
+          record { left = _; leaves = refl; answers = answers; says = λ claim. claim (noState 2) meltingCalls _ refl 100 _ answers };
+    }
+
+pub pair-bench : PairBench
+pair-bench = worked-out .pairs
+
+pub left-bench : LeftBench
+left-bench = worked-out .left
+
+pub figures-bench : FiguresBench
+figures-bench = worked-out .figures
+
+pub search-met : SearchMet
+search-met = worked-out .search
+
 -- ---- demand 3: its premises
-
--- what the calls are lent, and what they answer
-melting-lent : (AsLoaded melting (meltingFor 0)) × (PairAsLoaded melting 0 (meltingFor 0 .columns .numbers) (meltingFor 1))
-    × (PairAsLoaded melting 1 (meltingFor 1 .columns .numbers) (meltingFor 1)) × (AsLoaded melting (meltingFor 2))
-    × (AllAccepted (noState 2) meltingCalls) × (AllRefused (after (noState 2) (start (meltingFor 0) (0 ∷ []) 3000)) refusedCalls)
-unfolding refusedCalls accepts after run meltingFor meltingStep meltingSteps meltingCalls noState lowestFrom lowest anyShorter notRising nearest floorDiv outside anyOutside startsWith field headerField sectionEnd rowCountAt gaugeCountAt sheetEnd recordField reachFields reachOf reachOn reaches rowStarts rowConcentrations gauges totalSegments segmentCount alongRiver courseOf reachAt ownGain gain flow discharge ad isLast adAbove adBelow eOf gOf rateOf numbers loadedSegment P N F R rowOf newStorage newSediment newFigures downward stepped segmentAt writeSegments figuresAt writeFigures unmarked walk startsLate rowFault gaugeFault flowFault faceFault sumFault sheetTests courseTests listTests loadTests loaded loadAnswer loadColumns blocksFault riverFault segmentFault figureFault startFault stateFault heldFault startTests startAnswer startState stepTests stepAnswer stepState reportTests reported reportAnswer bytes allBytes zeros noWork topOf sections hasFlowRows flowRowCountAt flowRowCount testFlows numbersFault numbersAt oldFault pairAt lastBegun flowInForce flowRowStart flowRowTop flowRowStarts flowRowTops flowRowFault snow melting
-melting-lent = (
-  record { flow = 0; known = lit≤ tt; lists = record { count = refl; segments = refl } },
-  record { before = refl; after = record { count = refl; segments = refl } },
-  record { before = refl; after = record { count = refl; segments = refl } },
-  record { flow = 2; known = lit≤ tt; lists = record { count = refl; segments = refl } },
-  (tt, (tt, (tt, (tt, tt)))),
-  (λ t. t, (λ t. t, (λ t. t, tt))),
-)
-
--- each flow of the sheet is loaded; the count and the report after the calls
-melting-told : (loadAnswer melting 0 1 (zeros 2) ≡ accepted (loaded melting)) × (loadAnswer melting 2 1 (zeros 2) ≡ accepted (loaded melting))
-    × (run (noState 2) meltingCalls .steps ≡ 2) × (loaded melting .segments ≡ 2)
-    × ((v : Reported) × (reportAnswer 2 (meltingFor 2 .columns) (run (noState 2) meltingCalls) 2 ≡ accepted v))
-unfolding refusedCalls accepts after run meltingFor meltingStep meltingSteps meltingCalls noState lowestFrom lowest anyShorter notRising nearest floorDiv outside anyOutside startsWith field headerField sectionEnd rowCountAt gaugeCountAt sheetEnd recordField reachFields reachOf reachOn reaches rowStarts rowConcentrations gauges totalSegments segmentCount alongRiver courseOf reachAt ownGain gain flow discharge ad isLast adAbove adBelow eOf gOf rateOf numbers loadedSegment P N F R rowOf newStorage newSediment newFigures downward stepped segmentAt writeSegments figuresAt writeFigures unmarked walk startsLate rowFault gaugeFault flowFault faceFault sumFault sheetTests courseTests listTests loadTests loaded loadAnswer loadColumns blocksFault riverFault segmentFault figureFault startFault stateFault heldFault startTests startAnswer startState stepTests stepAnswer stepState reportTests reported reportAnswer bytes allBytes zeros noWork topOf sections hasFlowRows flowRowCountAt flowRowCount testFlows numbersFault numbersAt oldFault pairAt lastBegun flowInForce flowRowStart flowRowTop flowRowStarts flowRowTops flowRowFault snow melting
-melting-told = (refl, refl, refl, refl, (_, refl))
-
--- the steps and the report
-steps-fed : Fed melting (after (noState 2) (start (meltingFor 0) (0 ∷ []) 3000)) meltingSteps
-unfolding refusedCalls accepts after run meltingFor meltingStep meltingSteps meltingCalls noState lowestFrom lowest anyShorter notRising nearest floorDiv outside anyOutside startsWith field headerField sectionEnd rowCountAt gaugeCountAt sheetEnd recordField reachFields reachOf reachOn reaches rowStarts rowConcentrations gauges totalSegments segmentCount alongRiver courseOf reachAt ownGain gain flow discharge ad isLast adAbove adBelow eOf gOf rateOf numbers loadedSegment P N F R rowOf newStorage newSediment newFigures downward stepped segmentAt writeSegments figuresAt writeFigures unmarked walk startsLate rowFault gaugeFault flowFault faceFault sumFault sheetTests courseTests listTests loadTests loaded loadAnswer loadColumns blocksFault riverFault segmentFault figureFault startFault stateFault heldFault startTests startAnswer startState stepTests stepAnswer stepState reportTests reported reportAnswer bytes allBytes zeros noWork topOf sections hasFlowRows flowRowCountAt flowRowCount testFlows numbersFault numbersAt oldFault pairAt lastBegun flowInForce flowRowStart flowRowTop flowRowStarts flowRowTops flowRowFault snow melting
-steps-fed =
-    let lent = melting-lent in
-    Fed.more {call = meltingStep 0 1} (λ t. lent .1)
-    (Fed.more {call = meltingStep 1 1} (λ t. lent .2)
-    (Fed.more {call = report (meltingFor 2) 2} (λ t. lent .3) Fed.none))
 
 pub melting-fed : Fed melting (noState 2) meltingCalls
 unfolding meltingCalls
-melting-fed = Fed.more {call = start (meltingFor 0) (0 ∷ []) 3000} (λ t. melting-lent .0) steps-fed
+melting-fed = Fed.more {call = start (meltingFor 0) (0 ∷ []) 3000} (λ t. worked-out .starting) (worked-out .fed)
 
--- refused calls between, which may be lent anything and leave the state as it was
+-- the same with refused calls between, which may be lent anything and leave the state as it was
 refused-fed : Fed melting (noState 2) (start (meltingFor 0) (0 ∷ []) 3000 ∷ refusedCalls ++ meltingSteps)
-unfolding refusedCalls accepts after run meltingFor meltingStep meltingSteps meltingCalls noState lowestFrom lowest anyShorter notRising nearest floorDiv outside anyOutside startsWith field headerField sectionEnd rowCountAt gaugeCountAt sheetEnd recordField reachFields reachOf reachOn reaches rowStarts rowConcentrations gauges totalSegments segmentCount alongRiver courseOf reachAt ownGain gain flow discharge ad isLast adAbove adBelow eOf gOf rateOf numbers loadedSegment P N F R rowOf newStorage newSediment newFigures downward stepped segmentAt writeSegments figuresAt writeFigures unmarked walk startsLate rowFault gaugeFault flowFault faceFault sumFault sheetTests courseTests listTests loadTests loaded loadAnswer loadColumns blocksFault riverFault segmentFault figureFault startFault stateFault heldFault startTests startAnswer startState stepTests stepAnswer stepState reportTests reported reportAnswer bytes allBytes zeros noWork topOf sections hasFlowRows flowRowCountAt flowRowCount testFlows numbersFault numbersAt oldFault pairAt lastBegun flowInForce flowRowStart flowRowTop flowRowStarts flowRowTops flowRowFault snow melting
-refused-fed =
-    let none : Lent = record { count = 0; columns = zeros 0 } in
-    let not = melting-lent .5 in
-    Fed.more {call = start (meltingFor 0) (0 ∷ []) 3000} (λ t. melting-lent .0)
-    (Fed.more {call = start none [] 3000} (λ t. absurd (not .0 t))
-    (Fed.more {call = step (zeros 0 .numbers) none [] (noWork 0) 3000 4} (λ t. absurd (not .1 .0 t))
-    (Fed.more {call = report none 1} (λ t. absurd (not .1 .1 .0 t)) steps-fed)))
+refused-fed = Fed.more {call = start (meltingFor 0) (0 ∷ []) 3000} (λ t. worked-out .starting) (worked-out .fedRefused)
 
 -- the start that a list of the claim begins with
 demand-3-of : (calls : List Call) → Fed melting (noState 2) (start (meltingFor 0) (0 ∷ []) 3000 ∷ calls) → Demand3 →
     Holds melting (noState 2) (start (meltingFor 0) (0 ∷ []) 3000 ∷ calls)
 unfolding meltingCalls
 demand-3-of calls fed claim =
-    claim melting 0 (reachOf (λ k. 0) ∷ []) (zeros 2) (loaded melting) (melting-told .0) (noState 2) (meltingFor 0) (0 ∷ []) 3000 calls (melting-lent .4 .0) fed
+    claim melting 0 (reachOf (λ k. 0) ∷ []) (zeros 2) (loaded melting) (worked-out .loads0) (noState 2) (meltingFor 0) (0 ∷ []) 3000 calls (worked-out .allAccepted .0) fed
 
 -- what it says of the accepted ones
 melting-near : Holds melting (noState 2) meltingCalls → (q : Exact) × ExactRun melting noRiver (events (noState 2) meltingCalls) q × (q .n ≡ 2)
@@ -102,20 +172,20 @@ melting-near : Holds melting (noState 2) meltingCalls → (q : Exact) × ExactRu
 melting-near holds =
     let q = holds .exists .0 in
     let run = holds .exists .1 in
-    let n : q .n ≡ 2 = sym (holds .counted q run) ∙ melting-told .2 in
+    let n : q .n ≡ 2 = sym (holds .counted q run) ∙ worked-out .steps in
     (q, run, n, rw n at (holds .near q run))
 
 pub demand-3-met : Demand3Met
 unfolding meltingCalls meltingFor
 demand-3-met = record {
-  allAccepted = melting-lent .4;
+  allAccepted = worked-out .allAccepted;
   fed = melting-fed;
-  allRefused = melting-lent .5;
+  allRefused = worked-out .allRefused;
   fedRefused = refused-fed;
   says = λ claim. melting-near (demand-3-of meltingSteps melting-fed claim);
   saysReport = λ claim.
-      let told = melting-told .4 in
-      (told .0, told .1, demand-3-of meltingSteps melting-fed claim .reports (meltingFor 2) 2 (told .0) (melting-lent .3) (told .1));
+      let told = worked-out .given in
+      (told .0, told .1, demand-3-of meltingSteps melting-fed claim .reports (meltingFor 2) 2 (told .0) (worked-out .reporting) (told .1));
   saysRefused = λ claim. demand-3-of (refusedCalls ++ meltingSteps) refused-fed claim;
 }
 
@@ -181,52 +251,17 @@ same-past-bench =
       λ s. as-many (before-same s),
     )
 
--- the first segment's e in a set of the step
-first-e : List Numbers → ℕ
-first-e [] = 0
-first-e (x ∷ xs) = x .e
-
-pub pair-bench : PairBench
-unfolding first-e accepts after run meltingFor meltingStep meltingSteps meltingCalls noState lowestFrom lowest anyShorter notRising nearest floorDiv outside anyOutside startsWith field headerField sectionEnd rowCountAt gaugeCountAt sheetEnd recordField reachFields reachOf reachOn reaches rowStarts rowConcentrations gauges totalSegments segmentCount alongRiver courseOf reachAt ownGain gain flow discharge ad isLast adAbove adBelow eOf gOf rateOf numbers loadedSegment P N F R rowOf newStorage newSediment newFigures downward stepped segmentAt writeSegments figuresAt writeFigures unmarked walk startsLate rowFault gaugeFault flowFault faceFault sumFault sheetTests courseTests listTests loadTests loaded loadAnswer loadColumns blocksFault riverFault segmentFault figureFault startFault stateFault heldFault startTests startAnswer startState stepTests stepAnswer stepState reportTests reported reportAnswer bytes allBytes zeros noWork topOf sections hasFlowRows flowRowCountAt flowRowCount testFlows numbersFault numbersAt oldFault pairAt lastBegun flowInForce flowRowStart flowRowTop flowRowStarts flowRowTops flowRowFault snow melting
-pair-bench = (
-  λ p. let e = ap first-e (p .before) in omega arith,
-  λ p. let e = ap (λ (xs : List Segment). first-e (map (λ x. x .numbers) xs)) (p .after .segments) in omega arith,
-)
-
--- the flow in force at steps 0 and 1
-in-force : (flowInForce melting 0 ≡ 0) × (flowInForce melting 1 ≡ 1)
-unfolding accepts after run meltingFor meltingStep meltingSteps meltingCalls noState lowestFrom lowest anyShorter notRising nearest floorDiv outside anyOutside startsWith field headerField sectionEnd rowCountAt gaugeCountAt sheetEnd recordField reachFields reachOf reachOn reaches rowStarts rowConcentrations gauges totalSegments segmentCount alongRiver courseOf reachAt ownGain gain flow discharge ad isLast adAbove adBelow eOf gOf rateOf numbers loadedSegment P N F R rowOf newStorage newSediment newFigures downward stepped segmentAt writeSegments figuresAt writeFigures unmarked walk startsLate rowFault gaugeFault flowFault faceFault sumFault sheetTests courseTests listTests loadTests loaded loadAnswer loadColumns blocksFault riverFault segmentFault figureFault startFault stateFault heldFault startTests startAnswer startState stepTests stepAnswer stepState reportTests reported reportAnswer bytes allBytes zeros noWork topOf sections hasFlowRows flowRowCountAt flowRowCount testFlows numbersFault numbersAt oldFault pairAt lastBegun flowInForce flowRowStart flowRowTop flowRowStarts flowRowTops flowRowFault snow melting
-in-force = (refl, refl)
-
-pub left-bench : LeftBench
-unfolding first-e accepts after run meltingFor meltingStep meltingSteps meltingCalls noState lowestFrom lowest anyShorter notRising nearest floorDiv outside anyOutside startsWith field headerField sectionEnd rowCountAt gaugeCountAt sheetEnd recordField reachFields reachOf reachOn reaches rowStarts rowConcentrations gauges totalSegments segmentCount alongRiver courseOf reachAt ownGain gain flow discharge ad isLast adAbove adBelow eOf gOf rateOf numbers loadedSegment P N F R rowOf newStorage newSediment newFigures downward stepped segmentAt writeSegments figuresAt writeFigures unmarked walk startsLate rowFault gaugeFault flowFault faceFault sumFault sheetTests courseTests listTests loadTests loaded loadAnswer loadColumns blocksFault riverFault segmentFault figureFault startFault stateFault heldFault startTests startAnswer startState stepTests stepAnswer stepState reportTests reported reportAnswer bytes allBytes zeros noWork topOf sections hasFlowRows flowRowCountAt flowRowCount testFlows numbersFault numbersAt oldFault pairAt lastBegun flowInForce flowRowStart flowRowTop flowRowStarts flowRowTops flowRowFault snow melting
-left-bench = (
-  λ l. let e = ap first-e (l .set) in omega arith,
-  λ l. let e = ap first-e (l .set) in omega arith,
-  λ l. let e = l .known in omega arith,
-)
-
-pub figures-bench : FiguresBench
-unfolding listed listedColumns listedState accepts after run meltingFor meltingStep meltingSteps meltingCalls noState lowestFrom lowest anyShorter notRising nearest floorDiv outside anyOutside startsWith field headerField sectionEnd rowCountAt gaugeCountAt sheetEnd recordField reachFields reachOf reachOn reaches rowStarts rowConcentrations gauges totalSegments segmentCount alongRiver courseOf reachAt ownGain gain flow discharge ad isLast adAbove adBelow eOf gOf rateOf numbers loadedSegment P N F R rowOf newStorage newSediment newFigures downward stepped segmentAt writeSegments figuresAt writeFigures unmarked walk startsLate rowFault gaugeFault flowFault faceFault sumFault sheetTests courseTests listTests loadTests loaded loadAnswer loadColumns blocksFault riverFault segmentFault figureFault startFault stateFault heldFault startTests startAnswer startState stepTests stepAnswer stepState reportTests reported reportAnswer bytes allBytes zeros noWork topOf sections hasFlowRows flowRowCountAt flowRowCount testFlows numbersFault numbersAt oldFault pairAt lastBegun flowInForce flowRowStart flowRowTop flowRowStarts flowRowTops flowRowFault snow melting
-figures-bench = (
-  record { first = lit≤ tt; last = lit≤ tt; channel = refl; storage = refl; sediment = refl },
-  λ f. let e = f .first in omega arith,
-  λ f. let e = f .last in omega arith,
-  λ f. let e = f .channel in omega arith,
-  λ f. let e = f .storage in omega arith,
-  λ f. let e = f .sediment in omega arith,
-)
-
 -- ---- what a loading leaves
 
 pub loaded-lists-met : LoadedListsMet
 unfolding meltingFor
 loaded-lists-met = record {
-  loads = melting-told .1;
-  left = λ claim. rw (melting-told .3) at (claim .left melting 2 (reachOf (λ k. 0) ∷ []) (zeros 2) (loaded melting) (melting-told .1));
+  loads = worked-out .loads2;
+  left = λ claim. rw (worked-out .segments) at (claim .left melting 2 (reachOf (λ k. 0) ∷ []) (zeros 2) (loaded melting) (worked-out .loads2));
   pairs = λ claim.
       let all = reachOf (λ k. 0) ∷ [] in
-      rw (in-force .0, in-force .1, melting-told .3) at (claim .pairs melting 0 2 all all (zeros 2) (zeros 2) (loaded melting) (loaded melting) (melting-told .0) (melting-told .1) 0 .2);
+      rw (worked-out .inForce0, worked-out .inForce1, worked-out .segments) at
+      (claim .pairs melting 0 2 all all (zeros 2) (zeros 2) (loaded melting) (loaded melting) (worked-out .loads0) (worked-out .loads2) 0 .2);
 }
 
 -- ---- several rivers: a pool with none open
@@ -235,35 +270,21 @@ pub all-closed : NoneOpen allClosed
 unfolding allClosed
 all-closed = record { slots = refl; closed = λ i h. rw (getD-replicate 8 i vacant vacant h) refl }
 
--- what the opening of `melting` answers and leaves
-melting-opens : (openAnswer melting 0 1 (zeros 2) allClosed 1 (0 ∷ []) 3000 ≡ accepted (loaded melting)) × (loadAnswer melting 1 1 (zeros 2) ≡ accepted (loaded melting))
-unfolding anyBelow sumBelow openSegments roomFault tableFault sharedFault openTests openAnswer openColumns allClosed openAt tableOf poolWith accepts after run meltingFor meltingStep meltingSteps meltingCalls noState lowestFrom lowest anyShorter notRising nearest floorDiv outside anyOutside startsWith field headerField sectionEnd rowCountAt gaugeCountAt sheetEnd recordField reachFields reachOf reachOn reaches rowStarts rowConcentrations gauges totalSegments segmentCount alongRiver courseOf reachAt ownGain gain flow discharge ad isLast adAbove adBelow eOf gOf rateOf numbers loadedSegment P N F R rowOf newStorage newSediment newFigures downward stepped segmentAt writeSegments figuresAt writeFigures unmarked walk startsLate rowFault gaugeFault flowFault faceFault sumFault sheetTests courseTests listTests loadTests loaded loadAnswer loadColumns blocksFault riverFault segmentFault figureFault startFault stateFault heldFault startTests startAnswer startState stepTests stepAnswer stepState reportTests reported reportAnswer bytes allBytes zeros noWork topOf sections hasFlowRows flowRowCountAt flowRowCount testFlows numbersFault numbersAt oldFault pairAt lastBegun flowInForce flowRowStart flowRowTop flowRowStarts flowRowTops flowRowFault snow melting
-melting-opens = (refl, refl)
-
 pub opened-lists-met : OpenedListsMet
 unfolding meltingFor
 opened-lists-met = record {
-  opens = melting-opens .0;
-  left = λ claim. rw (melting-told .3) at (claim .left melting 0 1 (zeros 2) allClosed 1 (0 ∷ []) 3000 (loaded melting) (melting-opens .0));
+  opens = worked-out .opens;
+  left = λ claim. rw (worked-out .segments) at (claim .left melting 0 1 (zeros 2) allClosed 1 (0 ∷ []) 3000 (loaded melting) (worked-out .opens));
   pairs = λ claim.
-      rw (in-force .0, in-force .1, melting-told .3) at
-      (claim .pairs melting 0 1 1 1 (zeros 2) (zeros 2) allClosed 1 (0 ∷ []) 3000 (loaded melting) (loaded melting) (melting-opens .0) (melting-opens .1) 0 .2);
+      rw (worked-out .inForce0, worked-out .inForce1, worked-out .segments) at
+      (claim .pairs melting 0 1 1 1 (zeros 2) (zeros 2) allClosed 1 (0 ∷ []) 3000 (loaded melting) (loaded melting) (worked-out .opens) (worked-out .loads1) 0 .2);
 }
-
--- rivers 1 and 2 overlap
-abbrev overlapping : Pool
-overlapping = poolWith (tableOf (openAt 0 2) (openAt 1 1) vacant) 1024
-
-refused-18 : (openAnswer melting 0 1 (zeros 2) overlapping 3 (0 ∷ []) 3000 ≡ refused 18 nothing)
-    × (openAnswer melting 0 1 (zeros 2) (vacated overlapping) 3 (0 ∷ []) 3000 ≡ accepted (loaded melting))
-unfolding anyBelow sumBelow openSegments roomFault tableFault sharedFault openTests openAnswer openColumns allClosed openAt tableOf poolWith accepts after run meltingFor meltingStep meltingSteps meltingCalls noState lowestFrom lowest anyShorter notRising nearest floorDiv outside anyOutside startsWith field headerField sectionEnd rowCountAt gaugeCountAt sheetEnd recordField reachFields reachOf reachOn reaches rowStarts rowConcentrations gauges totalSegments segmentCount alongRiver courseOf reachAt ownGain gain flow discharge ad isLast adAbove adBelow eOf gOf rateOf numbers loadedSegment P N F R rowOf newStorage newSediment newFigures downward stepped segmentAt writeSegments figuresAt writeFigures unmarked walk startsLate rowFault gaugeFault flowFault faceFault sumFault sheetTests courseTests listTests loadTests loaded loadAnswer loadColumns blocksFault riverFault segmentFault figureFault startFault stateFault heldFault startTests startAnswer startState stepTests stepAnswer stepState reportTests reported reportAnswer bytes allBytes zeros noWork topOf sections hasFlowRows flowRowCountAt flowRowCount testFlows numbersFault numbersAt oldFault pairAt lastBegun flowInForce flowRowStart flowRowTop flowRowStarts flowRowTops flowRowFault snow melting
-refused-18 = (refl, refl)
 
 pub opens-alone-bench : OpensAloneBench
 opens-alone-bench opens =
     ⊎-elim
-    (λ q. let e : refused 18 nothing ≡ refused 17 nothing = sym (refused-18 .0) ∙ q .0 in let n : _≡_ {A = ℕ} 18 17 = cc in absurd (omega arith))
-    (λ q. let e : refused 18 nothing ≡ accepted (loaded melting) = sym (refused-18 .0) ∙ q ∙ refused-18 .1 in differ cc)
+    (λ q. let e : refused 18 nothing ≡ refused 17 nothing = sym (worked-out .overlaps) ∙ q .0 in let n : _≡_ {A = ℕ} 18 17 = cc in absurd (omega arith))
+    (λ q. let e : refused 18 nothing ≡ accepted (loaded melting) = sym (worked-out .overlaps) ∙ q ∙ worked-out .opensAlone in differ cc)
     (opens melting 0 1 (zeros 2) (0 ∷ []) 3000)
 
 -- ---- the search
@@ -336,17 +357,3 @@ tells-bench = (
   record { notRefused = refl; noneIf = λ clear. refl; noneOnlyIf = λ e. clear-9 },
   λ t. let q = t .noneIf clear-9 in differ cc,
 )
-
--- ---- the search: the premises
-
--- the search that names the first segment, where this is above the limit in a block that is
-pub names-first : (tests : List Finding) (n : ℕ) (channel highest : List ℕ) (limit : ℕ) → first tests ≡ passes → Above n channel highest limit 0 →
-    Searches tests n channel highest limit (accepted (some 1))
-names-first tests n channel highest limit pass above =
-    record { found = some 1; finds = λ e. finds-some refl above; is = sym (outcome-passes tests (some 1) pass) }
-
-pub search-met : SearchMet
-unfolding leftSince searchTests highestBelow blockHighest startHighest stepHighest accepts after run meltingFor meltingStep meltingSteps meltingCalls noState lowestFrom lowest anyShorter notRising nearest floorDiv outside anyOutside startsWith field headerField sectionEnd rowCountAt gaugeCountAt sheetEnd recordField reachFields reachOf reachOn reaches rowStarts rowConcentrations gauges totalSegments segmentCount alongRiver courseOf reachAt ownGain gain flow discharge ad isLast adAbove adBelow eOf gOf rateOf numbers loadedSegment P N F R rowOf newStorage newSediment newFigures downward stepped segmentAt writeSegments figuresAt writeFigures unmarked walk startsLate rowFault gaugeFault flowFault faceFault sumFault sheetTests courseTests listTests loadTests loaded loadAnswer loadColumns blocksFault riverFault segmentFault figureFault startFault stateFault heldFault startTests startAnswer startState stepTests stepAnswer stepState reportTests reported reportAnswer bytes allBytes zeros noWork topOf sections hasFlowRows flowRowCountAt flowRowCount testFlows numbersFault numbersAt oldFault pairAt lastBegun flowInForce flowRowStart flowRowTop flowRowStarts flowRowTops flowRowFault snow melting
-search-met =
-    let answers = names-first _ 2 (run (noState 2) meltingCalls .channel) _ 100 refl (record { inside = lit< tt; segment = lit< tt; block = lit< tt }) in
-    record { left = _; leaves = refl; answers = answers; says = λ claim. claim (noState 2) meltingCalls _ refl 100 _ answers }

@@ -49,8 +49,7 @@ module _ (sheet : List ℕ) (r records : ℕ) (columns : Columns) (pool : Pool) 
 
   -- and so is the loading
   loading-too : (other : ℕ) → other ≤ flowRowCount sheet → loadAnswer sheet other records columns ≡ accepted v
-  loading-too other h =
-      loads sheet other records columns (passed .front) (any-flow sheet r records columns (passed .front) (passed .lists) other h) ∙ ap accepted values
+  loading-too = loading-flows sheet r records columns (loads sheet r records columns (passed .front) (passed .lists) ∙ ap accepted values)
 
 pub opened-lists : OpenedLists
 opened-lists = record {
