@@ -628,6 +628,11 @@ def blocks(document: str) -> list[list[str]]:
     return [[line[4:] for line in lines] for lines in found if all(line.startswith("    ") for line in lines)]
 
 
+def one_line(text: str) -> str:
+    """Its words, wherever its lines end."""
+    return " ".join(text.split())
+
+
 def svg_shape(text: str) -> tuple[int, int, int]:
     """Curves, limit lines and bars of a picture; parsing fails where it is not well formed."""
     kinds = [part.get("class") for part in ElementTree.fromstring(text).iter()]
@@ -859,7 +864,7 @@ def program_checks(path: str, full: bool) -> Iterator[Check]:
 
 def steady_checks(path: str) -> Iterator[Check]:
     """What docs/SNOWMELT.md says of the intake, with the flow rows and in one flow that gets as much salt."""
-    document = (ROOT / "docs" / "SNOWMELT.md").read_text(encoding="utf-8")
+    document = one_line((ROOT / "docs" / "SNOWMELT.md").read_text(encoding="utf-8"))
     text = (EXAMPLES / "snowmelt.txt").read_text(encoding="utf-8").split("\nflow  from")[0]
     released = f"~{(snowmelt.BACKGROUND + snowmelt.RELEASE * 1_000_000 / snowmelt.FLOWS[0]) / 1_000_000:.4f}"
     for row in ("2         5     102", "4         16    34"):
@@ -918,7 +923,7 @@ def document_checks(full: bool) -> Iterator[Check]:
                     limit=curves.limit_figure(limit)).table("channel")
     yield Check("README: what it shows", [each in shown_blocks for each in (table, plot, limited)], [True] * 3)
     yield Check("README: every spell, in these words", 'every spell above the limit at every gauge: from, until, '
-                'or "still above at the end"' in text, True)
+                'or "still above at the end"' in one_line(text), True)
 
 
 # Proofs
