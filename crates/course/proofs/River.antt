@@ -5,13 +5,13 @@ use mathlib.Core.Path.{_≡_, refl, sym, ap, _∙_}
 use Prim.Native.Nat.{ℕ, _+_, _^_, _<_, _≤_}
 use native.Mathlib.Omega.{arith}
 use borrow.Author.Tests.{ne-eqb}
-use lib.Dec.{eqb}
+use lib.Dec.{eqb, leb}
 use lib.ListN.{length}
 use Rattle.lists.proofs.Tab.{length-tab, getD-tab}
-use Rattle.model.specs.Sheet.{Reach, reachOn, reaches, reachCount, segmentCount, dt, dx, sectionEnd, rowCountAt, gaugeCountAt, rowsAt, gaugesAt, hasFlowRows, flowRowCountAt, flowRowCount, flowRowsAt}
+use Rattle.model.specs.Sheet.{Reach, edition, reachOn, reaches, reachCount, segmentCount, dt, dx, sections, sectionEnd, sectionsEnd, countAt, rowCountAt, gaugeCountAt, flowRowCountAt, flowRowCount}
 use Rattle.model.specs.Flow.{Course, topOf, courseOf}
 use Rattle.model.specs.HalfStep as HalfStep
-use Rattle.model.specs.Load.{sumFault}
+use Rattle.model.specs.Load.{sumFault, loaded}
 use Rattle.terms.specs.Says.{reachSays}
 use Rattle.terms.specs.declared.Reach as Code
 use Rattle.halfstep.specs.Ranges.{InRange}
@@ -184,17 +184,17 @@ module _ (number : ℕ) (site : Site) where
 
 -- where the rows, the gauges and the flow rows begin fits 32 bits
 module _ {sheet : List ℕ} {n : ℕ} (r : Read sheet n) where
-  pub rows-fit : rowsAt sheet < 2 ^ 13
-  unfolding rowCountAt sectionEnd
+  pub rows-fit : rowCountAt sheet + 4 < 2 ^ 13
+  unfolding sections sectionEnd sectionsEnd countAt
   rows-fit = omega (arith, passed sheet (r .passed) .reachCounts .high)
 
-  pub gauges-fit : gaugesAt sheet < 2 ^ 14
-  unfolding gaugeCountAt sectionEnd
+  pub gauges-fit : gaugeCountAt sheet + 4 < 2 ^ 14
+  unfolding sections sectionEnd sectionsEnd countAt
   gauges-fit = omega (arith, rows-fit, passed sheet (r .passed) .rowCounts .high)
 
-  pub flow-rows-fit : flowRowsAt sheet < 2 ^ 15
-  unfolding flowRowsAt flowRowCountAt sectionEnd
-  flow-rows-fit = fit (hasFlowRows sheet)
+  pub flow-rows-fit : loaded sheet .flowRowsAt < 2 ^ 15
+  unfolding sections sectionEnd sectionsEnd countAt loaded
+  flow-rows-fit = fit (leb 2 (edition sheet))
     where
       fit : (t : Bool) → cond t (flowRowCountAt sheet + 4) 0 < 2 ^ 15
       fit true = omega (arith, gauges-fit, passed sheet (r .passed) .gaugeCounts .high)

@@ -11,7 +11,7 @@ use lib.Seq.{getD-append-add}
 use Rattle.lists.proofs.Tab.{length-tab, getD-tab}
 use Rattle.lists.proofs.Shorter.{neither}
 use Rattle.model.specs.Ranges.{Range, _to_, Section, outside, anyOutside, concentration, reachRanges, reachSection, mostKd, mostSegments}
-use Rattle.model.specs.Sheet.{Reach, sections, field, reachCountAt, reachCount, reachFields, reachOf, reachOn, reaches, totalSegments, segmentCount, alongRiver}
+use Rattle.model.specs.Sheet.{Reach, edition, sections, field, reachCountAt, reachCount, reachFields, reachOf, reachOn, reaches, totalSegments, segmentCount, alongRiver}
 use Rattle.model.specs.Flow.{courseOf, reachAt}
 use Rattle.model.specs.Refusals.{nothing, reach, Finding, passes, fails, first}
 use Rattle.model.specs.Load.{walk, sheetTests}
@@ -38,11 +38,11 @@ pub record FitReach (r : Reach) : Type 0 where
   pub start : outside concentration (r .start) ≡ false
 
 -- test 6 finds no fault in its fields: it is such a one
-reach-fit : (sheet : List ℕ) (i : ℕ) → anyOutside reachRanges (reachFields sheet i) ≡ false → FitReach (reachOn sheet i)
+reach-fit : (sheet : List ℕ) (i : ℕ) → anyOutside (reachRanges (edition sheet)) (reachFields sheet i) ≡ false → FitReach (reachOn sheet i)
 unfolding reachFields reachOn reachOf
 reach-fit sheet i e =
-    let field : (k : ℕ) → k < 16 → outside (getD reachRanges k (0 to 0)) (getD (reachFields sheet i) k 0) ≡ false =
-    λ k h. field-inside reachRanges (reachFields sheet i) k e h h in
+    let field : (k : ℕ) → k < 16 → outside (getD (reachRanges (edition sheet)) k (0 to 0)) (getD (reachFields sheet i) k 0) ≡ false =
+    λ k h. field-inside (reachRanges (edition sheet)) (reachFields sheet i) k e h h in
     record {
       segments = inside _ _ (field 0 (lit< tt)) .0;
       kd = inside _ _ (field 13 (lit< tt)) .1;
@@ -111,8 +111,8 @@ pub right : (sheet : List ℕ) → first (sheetTests sheet) ≡ passes → Right
 unfolding sheetTests sections reaches segmentCount courseOf reachAt
 right sheet e =
     let t = all-pass (sheetTests sheet) e in
-    let count = inside _ _ (counted sheet reachCountAt reachSection _ (t .1 .0)) in
-    let clear = each-clear 6 reach (reachCount sheet) (λ i. anyOutside reachRanges (reachFields sheet i)) (t .1 .1 .1 .1 .0) in
+    let count = inside _ _ (counted sheet reachCountAt (reachSection (edition sheet)) _ (t .1 .0)) in
+    let clear = each-clear 6 reach (reachCount sheet) (λ i. anyOutside (reachRanges (edition sheet)) (reachFields sheet i)) (t .1 .1 .1 .1 .0) in
     let long = length-tab (reachOn sheet) 0 (reachCount sheet) in
     let none = reachOf (λ k. 0) in
     let fit : (k : ℕ) → k < length (reaches sheet) → FitReach (getD (reaches sheet) k none) =

@@ -1,55 +1,34 @@
 -- Laws of flow rows: OTR1 is the case of no rows, the flow in force is the last that has begun, and where it does not change in a step, the
 -- right sides of the step are document 01's own.
 use mathlib.Core.Path.{_≡_, refl, sym, ap, _∙_}
-use mathlib.Core.Bool.{Bool, true, false, cond, _&&_, true≢false}
-use mathlib.Core.List.{List, [], _∷_, _++_}
+use mathlib.Core.Bool.{Bool, true, false, cond}
+use mathlib.Core.List.{List}
 use mathlib.Core.Logic.{⊎-elim}
 use Prim.Native.Nat.{ℕ, zero, suc, _+_, _-_, _*_, _<_, _≤_}
 use native.Mathlib.Nat.{eq-or-lt-of-le, lt-of-not-le}
 use native.Mathlib.Decide.{decLe}
 use native.Mathlib.Omega.{arith}
-use borrow.Author.Tests.{eqb-true, leb-true, leb-false}
-use lib.Dec.{eqb, leb}
+use borrow.Author.Tests.{leb-true, leb-false}
+use lib.Dec.{leb}
 use Rattle.rounding.specs.Nearest.{S}
-use Rattle.model.specs.Sheet.{otr1, startsWith, hasFlowRows, flowRowCount, flowRowsAt, flowRowStart}
+use Rattle.model.specs.Sheet.{edition, flowRowCount, flowRowStart}
 use Rattle.model.specs.Flow.{lastBegun, flowInForce, courseOf}
 use Rattle.model.specs.HalfStep.{numbers}
 use Rattle.model.specs.Equations.{Figures, Pair, sumT, sumV, channelRight, storageRight, sedimentRight}
+use Rattle.model.specs.Load.{loaded}
 use Rattle.model.specs.Runs.{sheetPair}
 
 -- ---- OTR1
 
--- a sheet does not start with two marks that differ in their last byte
-other-mark : (front : List ℕ) (x y : ℕ) → eqb x y ≡ false → (sheet : List ℕ) → startsWith (front ++ (x ∷ [])) sheet ≡ true →
-    startsWith (front ++ (y ∷ [])) sheet ≡ false
-unfolding startsWith
-other-mark [] x y d [] e = refl
-other-mark [] x y d (b ∷ sheet) e = go (eqb b x) refl e
-  where
-    go : (t : Bool) → eqb b x ≡ t → (t && true) ≡ true → (eqb b y && true) ≡ false
-    go true h e = rw (eqb-true b x h, d)
-    go false h e = absurd (true≢false (sym e))
-other-mark (c ∷ front) x y d [] e = refl
-other-mark (c ∷ front) x y d (b ∷ sheet) e = go (eqb b c) (other-mark front x y d sheet) e
-  where
-    go : (t : Bool) → (startsWith (front ++ (x ∷ [])) sheet ≡ true → startsWith (front ++ (y ∷ [])) sheet ≡ false) →
-        (t && startsWith (front ++ (x ∷ [])) sheet) ≡ true → (t && startsWith (front ++ (y ∷ [])) sheet) ≡ false
-    go true more e = more e
-    go false more e = refl
-
-module _ (sheet : List ℕ) (marked : startsWith otr1 sheet ≡ true) where
-  pub no-flow-rows : hasFlowRows sheet ≡ false
-  unfolding hasFlowRows
-  no-flow-rows = other-mark (79 ∷ 84 ∷ 82 ∷ []) 49 50 refl sheet marked
-
+module _ (sheet : List ℕ) (first : edition sheet ≡ 1) where
   -- "(both 0 in OTR1)"
   pub count-none : flowRowCount sheet ≡ 0
   unfolding flowRowCount
-  count-none = rw no-flow-rows
+  count-none = rw first
 
-  pub begin-none : flowRowsAt sheet ≡ 0
-  unfolding flowRowsAt
-  begin-none = rw no-flow-rows
+  pub begin-none : loaded sheet .flowRowsAt ≡ 0
+  unfolding loaded
+  begin-none = rw first
 
   -- the flow at the top is in force at every step
   pub always-top : (j : ℕ) → flowInForce sheet j ≡ 0

@@ -8,17 +8,13 @@ use lib.ListN.{length, getD}
 use lib.Signed.{ltZ}
 use Rattle.lists.specs.Lists.{tab, over, anyShorter, notRising}
 use Rattle.rounding.specs.Nearest.{S}
-use Rattle.model.specs.Ranges.{_to_, Section, outside, anyOutside, headerRanges, reachRanges, concentration, flows, mostSegments}
-use Rattle.model.specs.Sheet.{otr1, otr2, startsWith, sections, field, header, stepsM, interval, sectionEnd, reachCountAt, sheetEnd, rowsAt, gaugesAt, flowRowsAt, reachCount, rowCount, gaugeCount, flowRowCount, Reach, reachFields, reaches, rowStarts, rowConcentrations, gauges, flowRowStarts, flowRowTops, segmentCount}
+use Rattle.model.specs.Ranges.{_to_, since, Section, outside, anyOutside, headerRanges, reachRanges, concentration, flows, mostSegments}
+use Rattle.model.specs.Sheet.{edition, sections, field, header, stepsM, interval, sectionEnd, reachCountAt, sheetEnd, rowCountAt, gaugeCountAt, flowRowCountAt, reachCount, rowCount, gaugeCount, flowRowCount, Reach, reachFields, reaches, rowStarts, rowConcentrations, gauges, flowRowStarts, flowRowTops, segmentCount}
 use Rattle.model.specs.Flow.{Course, courseOf, flow, discharge}
 use Rattle.model.specs.HalfStep.{Numbers, ad, adBelow, numbers}
 use Rattle.model.specs.Equations.{sumT, sumV}
 use Rattle.model.specs.State.{Columns, columnLists, loadedSegments, writeSegments}
 use Rattle.model.specs.Refusals.{nothing, reach, segment, row, Outcome, accepted, refused, Finding, passes, fails, test, testEach, first, outcomeOf}
-
--- 1. "Fewer than four bytes, or another mark."
-unfoldable pub unmarked : List ℕ → Bool
-unmarked sheet = not (startsWith otr1 sheet || startsWith otr2 sheet)
 
 -- "only 2 and 3 are found on one walk from the front, and the one met first decides": section by section from the count at `at`;
 -- 2, the sheet ends before the count or before its last record, 3, "a count is outside its range"
@@ -63,11 +59,11 @@ sumFault n = ltb S (sumT n) || ltb S (sumV n) || ltb S (n .h)
 -- tests 1 to 9 and then 16, of the sheet's own fields
 unfoldable pub sheetTests : List ℕ → List Finding
 sheetTests sheet =
-    test 1 (unmarked sheet) ∷
+    test 1 (eqb (edition sheet) 0) ∷
     walk sheet reachCountAt (sections sheet) ∷
     test 4 (ltb (sheetEnd sheet) (length sheet)) ∷
     test 5 (anyOutside (headerRanges (stepsM sheet)) (header sheet)) ∷
-    testEach 6 reach (reachCount sheet) (λ i. anyOutside reachRanges (reachFields sheet i)) ∷
+    testEach 6 reach (reachCount sheet) (λ i. anyOutside (reachRanges (edition sheet)) (reachFields sheet i)) ∷
     test 7 (ltb mostSegments (segmentCount sheet)) ∷
     testEach 8 row (rowCount sheet) (rowFault (stepsM sheet) (rowStarts sheet) (rowConcentrations sheet)) ∷
     testEach 9 row (gaugeCount sheet) (gaugeFault (segmentCount sheet) (gauges sheet)) ∷
@@ -100,7 +96,7 @@ unfoldable pub loadTests : List ℕ → (r records : ℕ) → Columns → List F
 loadTests sheet r records columns = riverTests sheet ++ listTests sheet r records columns
 
 -- "Its result also gives M, the print interval, the segment count, and where the rows and the gauges begin on the sheet and how
--- many there are", and "tells where the flow rows begin and how many there are"
+-- many there are", and "tells where the flow rows begin and how many there are (both 0 in OTR1)"
 pub record Loaded : Type 0 where
   pub steps : ℕ
   pub interval : ℕ
@@ -112,17 +108,17 @@ pub record Loaded : Type 0 where
   pub flowRowsAt : ℕ
   pub flowRows : ℕ
 
--- those of a sheet
+-- those of a sheet; rows and gauges begin behind their count
 unfoldable pub loaded : List ℕ → Loaded
 loaded sheet = record {
   steps = stepsM sheet;
   interval = interval sheet;
   segments = segmentCount sheet;
-  rowsAt = rowsAt sheet;
+  rowsAt = rowCountAt sheet + 4;
   rows = rowCount sheet;
-  gaugesAt = gaugesAt sheet;
+  gaugesAt = gaugeCountAt sheet + 4;
   gauges = gaugeCount sheet;
-  flowRowsAt = flowRowsAt sheet;
+  flowRowsAt = since 2 (edition sheet) (flowRowCountAt sheet + 4) 0;
   flowRows = flowRowCount sheet;
 }
 

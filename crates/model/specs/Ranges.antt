@@ -1,8 +1,9 @@
 -- Document 01, "The river sheet", with the sections of document 02: the range of every field and count, and the limits of the calls, each written once.
-use mathlib.Core.Bool.{Bool, false, _||_}
+use mathlib.Core.Bool.{Bool, false, cond, _||_}
 use mathlib.Core.List.{List, [], _∷_}
 use Prim.Native.Nat.{ℕ}
-use lib.Dec.{ltb}
+use lib.Dec.{ltb, leb}
+use lib.ListN.{length}
 
 -- a range: its lowest and its highest value
 pub record Range : Type 0 where
@@ -23,6 +24,10 @@ unfoldable pub anyOutside : List Range → List ℕ → Bool
 anyOutside [] fields = false
 anyOutside (range ∷ ranges) [] = false
 anyOutside (range ∷ ranges) (field ∷ fields) = outside range field || anyOutside ranges fields
+
+-- what sheets have from edition n on, and what stands for it in the editions before
+abbrev pub since : {A : Type 0} → (n edition : ℕ) → A → A → A
+since n edition x before = cond (leb n edition) x before
 
 -- "Concentrations are 0 to 1,000,000,000 ng/L."
 abbrev pub highest : ℕ
@@ -71,9 +76,9 @@ headerRanges M =
     flows ∷
     []
 
--- a reach's 16 fields, in the sheet's order
-abbrev pub reachRanges : List Range
-reachRanges =
+-- a reach's fields, in the sheet's order: sixteen in every edition so far
+abbrev pub reachRanges : (edition : ℕ) → List Range
+reachRanges edition =
     (1 to mostSegments) ∷  -- segments
     (0 to 1000000) ∷  -- dispersion D, cm²/s
     areas ∷  -- channel area A, cm²
@@ -98,8 +103,8 @@ pub record Section : Type 0 where
   pub width : ℕ
 
 -- "Count of reaches (1 to 64), then 16 fields each"
-abbrev pub reachSection : Section
-reachSection = record { counts = 1 to 64; width = 16 }
+abbrev pub reachSection : (edition : ℕ) → Section
+reachSection edition = record { counts = 1 to 64; width = length (reachRanges edition) }
 
 -- "Count of boundary rows (1 to 256), then start step and concentration."
 abbrev pub rowSection : Section

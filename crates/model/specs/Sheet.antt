@@ -4,9 +4,9 @@ use mathlib.Core.Bool.{Bool, true, false, cond, _&&_}
 use mathlib.Core.List.{List, [], _∷_, _++_}
 use Prim.Native.Nat.{ℕ, _+_, _*_}
 use lib.Dec.{eqb}
-use lib.ListN.{getD, replicate}
+use lib.ListN.{getD, take, replicate}
 use Rattle.lists.specs.Lists.{tab}
-use Rattle.model.specs.Ranges.{Section, reachSection, rowSection, gaugeSection, flowSection}
+use Rattle.model.specs.Ranges.{since, Section, reachSection, rowSection, gaugeSection, flowSection}
 
 -- "A sheet starts with the four bytes OTR1"
 abbrev pub otr1 : List ℕ
@@ -22,13 +22,12 @@ startsWith [] sheet = true
 startsWith (byte ∷ bytes) [] = false
 startsWith (byte ∷ bytes) (b ∷ sheet) = eqb b byte && startsWith bytes sheet
 
--- Document 02, 1: "A sheet marked OTR2 has a fourth section after the gauges"
-unfoldable pub hasFlowRows : List ℕ → Bool
-hasFlowRows sheet = startsWith otr2 sheet
-
--- the sections behind the header, in the sheet's order
-unfoldable pub sections : List ℕ → List Section
-sections sheet = reachSection ∷ rowSection ∷ gaugeSection ∷ cond (hasFlowRows sheet) (flowSection ∷ []) []
+-- the edition of a sheet: the number of the mark that it starts with, or 0 for "Fewer than four bytes, or another mark."
+unfoldable pub edition : List ℕ → ℕ
+edition sheet =
+    cond (startsWith otr1 sheet) 1
+    (cond (startsWith otr2 sheet) 2
+    0)
 
 -- "All fields are unsigned 32-bit, little-endian": the field whose first byte is byte number `at`, from 0 at the mark
 unfoldable pub field : List ℕ → ℕ → ℕ
@@ -66,33 +65,46 @@ topFlow sheet = headerField sheet 4
 abbrev pub header : List ℕ → List ℕ
 header sheet = tab 0 headerWidth (headerField sheet)
 
+-- "Count of reaches", behind the header
+abbrev pub reachCountAt : ℕ
+reachCountAt = 4 + 4 * headerWidth
+
+-- and what stands there
+abbrev pub reachCount : List ℕ → ℕ
+reachCount sheet = field sheet reachCountAt
+
+-- the sections behind the header, in the sheet's order. Document 02, 1: "A sheet marked OTR2 has a fourth section after the gauges"
+unfoldable pub sections : List ℕ → List Section
+sections sheet = reachSection (edition sheet) ∷ rowSection ∷ gaugeSection ∷ since 2 (edition sheet) (flowSection ∷ []) []
+
 -- where a section whose count stands at `at` ends
 unfoldable pub sectionEnd : List ℕ → ℕ → Section → ℕ
 sectionEnd sheet at section = at + 4 + 4 * (section .width * field sheet at)
 
--- where the counts stand: that of reaches behind the header, each other one behind the section before it
-abbrev pub reachCountAt : ℕ
-reachCountAt = 4 + 4 * headerWidth
-
--- that of boundary rows
-unfoldable pub rowCountAt : List ℕ → ℕ
-rowCountAt sheet = sectionEnd sheet reachCountAt reachSection
-
--- that of gauges
-unfoldable pub gaugeCountAt : List ℕ → ℕ
-gaugeCountAt sheet = sectionEnd sheet (rowCountAt sheet) rowSection
-
--- behind the last gauge: there OTR1 ends, and in OTR2 the count of flow rows stands
-unfoldable pub flowRowCountAt : List ℕ → ℕ
-flowRowCountAt sheet = sectionEnd sheet (gaugeCountAt sheet) gaugeSection
+-- where sections end that stand one behind the other, the first one's count at `at`
+unfoldable pub sectionsEnd : List ℕ → ℕ → List Section → ℕ
+sectionsEnd sheet at [] = at
+sectionsEnd sheet at (section ∷ more) = sectionsEnd sheet (sectionEnd sheet at section) more
 
 -- the end of "whichever section is last"
 unfoldable pub sheetEnd : List ℕ → ℕ
-sheetEnd sheet = cond (hasFlowRows sheet) (sectionEnd sheet (flowRowCountAt sheet) flowSection) (flowRowCountAt sheet)
+sheetEnd sheet = sectionsEnd sheet reachCountAt (sections sheet)
 
--- "Count of reaches"
-abbrev pub reachCount : List ℕ → ℕ
-reachCount sheet = field sheet reachCountAt
+-- where the count of section k stands, from 0: behind the k sections before it, whether the sheet has it or not
+unfoldable pub countAt : List ℕ → ℕ → ℕ
+countAt sheet k = sectionsEnd sheet reachCountAt (take k (sections sheet))
+
+-- that of boundary rows
+abbrev pub rowCountAt : List ℕ → ℕ
+rowCountAt sheet = countAt sheet 1
+
+-- that of gauges
+abbrev pub gaugeCountAt : List ℕ → ℕ
+gaugeCountAt sheet = countAt sheet 2
+
+-- that of flow rows
+abbrev pub flowRowCountAt : List ℕ → ℕ
+flowRowCountAt sheet = countAt sheet 3
 
 -- "Count of boundary rows"
 abbrev pub rowCount : List ℕ → ℕ
@@ -102,21 +114,9 @@ rowCount sheet = field sheet (rowCountAt sheet)
 abbrev pub gaugeCount : List ℕ → ℕ
 gaugeCount sheet = field sheet (gaugeCountAt sheet)
 
--- the count of flow rows, "how many there are (.. 0 in OTR1)"
+-- the count of flow rows, "0 in OTR1"
 unfoldable pub flowRowCount : List ℕ → ℕ
-flowRowCount sheet = cond (hasFlowRows sheet) (field sheet (flowRowCountAt sheet)) 0
-
--- where the rows and the gauges begin on the sheet: the first byte behind their count
-abbrev pub rowsAt : List ℕ → ℕ
-rowsAt sheet = rowCountAt sheet + 4
-
--- and the gauges
-abbrev pub gaugesAt : List ℕ → ℕ
-gaugesAt sheet = gaugeCountAt sheet + 4
-
--- and "where the flow rows begin .. (.. 0 in OTR1)"
-unfoldable pub flowRowsAt : List ℕ → ℕ
-flowRowsAt sheet = cond (hasFlowRows sheet) (flowRowCountAt sheet + 4) 0
+flowRowCount sheet = since 2 (edition sheet) (field sheet (flowRowCountAt sheet)) 0
 
 -- field k of record i of a section whose count stands at `at`
 unfoldable pub recordField : List ℕ → ℕ → Section → ℕ → ℕ → ℕ
@@ -141,9 +141,9 @@ pub record Reach : Type 0 where
   pub cb : ℕ
   pub start : ℕ
 
--- the sixteen fields of reach i, which counts from 0
+-- the fields of reach i, which counts from 0
 unfoldable pub reachFields : List ℕ → ℕ → List ℕ
-reachFields sheet i = tab 0 (reachSection .width) (recordField sheet reachCountAt reachSection i)
+reachFields sheet i = tab 0 (reachSection (edition sheet) .width) (recordField sheet reachCountAt (reachSection (edition sheet)) i)
 
 -- the record that sixteen fields make
 unfoldable pub reachOf : (ℕ → ℕ) → Reach
@@ -168,7 +168,7 @@ reachOf f = record {
 
 -- reach i of a sheet
 unfoldable pub reachOn : List ℕ → ℕ → Reach
-reachOn sheet i = reachOf (recordField sheet reachCountAt reachSection i)
+reachOn sheet i = reachOf (recordField sheet reachCountAt (reachSection (edition sheet)) i)
 
 -- the reaches, in the sheet's order
 unfoldable pub reaches : List ℕ → List Reach

@@ -12,7 +12,7 @@ use Rattle.lists.proofs.Lowest.{Searching, searching-start, searching-miss}
 use Rattle.lists.proofs.Tab.{getD-tab}
 use Rattle.lists.proofs.Shorter.{neither, not-rising}
 use Rattle.model.specs.Ranges.{_to_, outside, concentration, flows, reachSection, rowSection, gaugeSection}
-use Rattle.model.specs.Sheet.{recordField, reachCountAt, reachFields, rowCountAt, gaugeCountAt, rowCount, gaugeCount}
+use Rattle.model.specs.Sheet.{edition, recordField, reachCountAt, reachFields, rowCountAt, gaugeCountAt, rowCount, gaugeCount}
 use Rattle.model.specs.Sheet.{rowStarts, rowConcentrations, gauges, flowRowCount, flowRowStart, flowRowTop, flowRowStarts, flowRowTops}
 use Rattle.model.specs.Load.{startsLate, rowFault, gaugeFault, flowRowFault}
 use Rattle.sheet.specs.Entries.{Before}
@@ -23,9 +23,9 @@ pub reach-fields : (sheet : List ℕ) (i : ℕ) → length (reachFields sheet i)
 unfolding reachFields
 reach-fields sheet i = refl
 
-pub reach-field : (sheet : List ℕ) (i k : ℕ) → k < 16 → getD (reachFields sheet i) k 0 ≡ recordField sheet reachCountAt reachSection i k
+pub reach-field : (sheet : List ℕ) (i k : ℕ) → k < 16 → getD (reachFields sheet i) k 0 ≡ recordField sheet reachCountAt (reachSection (edition sheet)) i k
 unfolding reachFields
-reach-field sheet i k h = getD-tab (recordField sheet reachCountAt reachSection i) 16 k 0 h
+reach-field sheet i k h = getD-tab (recordField sheet reachCountAt (reachSection (edition sheet)) i) 16 k 0 h
 
 -- a sheet's row j, gauge j and flow row j
 module _ (sheet : List ℕ) (j : ℕ) where

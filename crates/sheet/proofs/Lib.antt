@@ -2,7 +2,6 @@ pub mod Reading
 pub mod Tables
 pub mod Tests
 pub mod Marked
-pub mod Sections
 pub mod Walking
 pub mod InRange
 pub mod Segments

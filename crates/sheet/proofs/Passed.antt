@@ -6,19 +6,19 @@ use Prim.Native.Nat.{ℕ, _<_, _≤_, zero-le}
 use native.Mathlib.Nat.{le-antisymm}
 use native.Mathlib.Omega.{arith}
 use borrow.Author.Tests.{ltb-false}
-use lib.Dec.{lit<}
+use lib.Dec.{leb, lit<}
 use lib.ListN.{length, getD}
-use Rattle.model.specs.Ranges.{_to_, anyOutside, headerRanges, reachRanges, reachSection, rowSection, gaugeSection, flowSection}
+use Rattle.model.specs.Ranges.{_to_, since, anyOutside, headerRanges, reachRanges, reachSection, rowSection, gaugeSection, flowSection}
 use Rattle.model.specs.Ranges.{concentration, flows, areas, rates, mostKd, mostSteps, mostSegments}
 use Rattle.model.specs.Sheet as Sheet
-use Rattle.model.specs.Sheet.{Reach, hasFlowRows, sections, field, header, reachCountAt, reachCount, rowCount, gaugeCount, flowRowCount, rowCountAt, gaugeCountAt, flowRowCountAt, sectionEnd, sheetEnd, reachFields}
+use Rattle.model.specs.Sheet.{Reach, edition, sections, field, header, reachCountAt, reachCount, rowCount, gaugeCount, flowRowCount, countAt, rowCountAt, gaugeCountAt, flowRowCountAt, sectionsEnd, sheetEnd, reachFields}
 use Rattle.model.specs.Sheet.{reachOf, reachOn, reaches, segmentCount}
 use Rattle.model.specs.Sheet.{stepsM, rowStarts, rowConcentrations, gauges, flowRowStarts, flowRowTops}
 use Rattle.model.specs.Refusals.{passes, reach, row, first}
-use Rattle.model.specs.Load.{unmarked, walk, rowFault, gaugeFault, flowRowFault, sheetTests}
+use Rattle.model.specs.Load.{walk, rowFault, gaugeFault, flowRowFault, sheetTests}
 use Rattle.sheet.proofs.Tests.{AllPass, all-pass, test-pass, each-pass}
 use Rattle.sheet.proofs.InRange.{Within, all-within}
-use Rattle.sheet.proofs.Walking.{walk-pass}
+use Rattle.sheet.proofs.Walking.{walk-pass, walk-ends}
 use Rattle.sheet.proofs.Segments.{segments-first}
 use Rattle.sheet.proofs.Entries.{RowRight, row-right, GaugeRight, gauge-right, FlowRowRight, flow-row-right}
 
@@ -41,11 +41,11 @@ pub record ReachWithin (r : Reach) : Type 0 where
   pub cb : Within concentration (r .cb)
   pub start : Within concentration (r .start)
 
-reach-within : (sheet : List ℕ) (i : ℕ) → anyOutside reachRanges (reachFields sheet i) ≡ false → ReachWithin (reachOn sheet i)
+reach-within : (sheet : List ℕ) (i : ℕ) → anyOutside (reachRanges (edition sheet)) (reachFields sheet i) ≡ false → ReachWithin (reachOn sheet i)
 unfolding reachFields reachOn reachOf
 reach-within sheet i e =
-    let field : (k : ℕ) → k < 16 → Within (getD reachRanges k (0 to 0)) (getD (reachFields sheet i) k 0) =
-    λ k h. all-within (0 to 0) reachRanges (reachFields sheet i) k e h h in
+    let field : (k : ℕ) → k < 16 → Within (getD (reachRanges (edition sheet)) k (0 to 0)) (getD (reachFields sheet i) k 0) =
+    λ k h. all-within (0 to 0) (reachRanges (edition sheet)) (reachFields sheet i) k e h h in
     record {
       segments = field 0 (lit< tt);
       dispersion = field 1 (lit< tt);
@@ -67,8 +67,7 @@ reach-within sheet i e =
 
 -- a sheet that passed
 pub record Passed (sheet : List ℕ) : Type 0 where
-  pub marked : unmarked sheet ≡ false
-  pub reachCounts : Within (reachSection .counts) (reachCount sheet)
+  pub reachCounts : Within (reachSection (edition sheet) .counts) (reachCount sheet)
   pub rowCounts : Within (rowSection .counts) (rowCount sheet)
   pub gaugeCounts : Within (gaugeSection .counts) (gaugeCount sheet)
   pub flowRowCounts : flowRowCount sheet ≤ flowSection .counts .high
@@ -93,34 +92,32 @@ some-segment : (sheet : List ℕ) → 0 < reachCount sheet → ReachWithin (reac
 unfolding segmentCount reaches
 some-segment sheet h r = omega (arith, segments-first (reachOn sheet) (reachCount sheet) h, r .segments .low)
 
--- the walk's end behind the last gauge, by whether flow rows follow
-last-section : (sheet : List ℕ) (at : ℕ) (more : Bool) → walk sheet at (cond more (flowSection ∷ []) []) ≡ passes → at ≤ length sheet →
-    (cond more (sectionEnd sheet at flowSection) at ≤ length sheet) × (cond more (field sheet at) 0 ≤ flowSection .counts .high)
-last-section sheet at true e h = let w = walk-pass sheet at flowSection [] e in (w .0 .ends, w .0 .counts .high)
-last-section sheet at false e h = (h, zero-le)
+-- the count of a last section that an edition may lack
+last-count : (sheet : List ℕ) (at : ℕ) (more : Bool) → walk sheet at (cond more (flowSection ∷ []) []) ≡ passes →
+    cond more (field sheet at) 0 ≤ flowSection .counts .high
+last-count sheet at true e = walk-pass sheet at flowSection [] e .0 .counts .high
+last-count sheet at false e = zero-le
 
 pub passed : (sheet : List ℕ) → first (sheetTests sheet) ≡ passes → Passed sheet
-unfolding sheetTests sections rowCountAt gaugeCountAt flowRowCountAt sheetEnd flowRowCount
+unfolding sheetTests sections sectionsEnd countAt sheetEnd flowRowCount
 passed sheet e =
     let t : AllPass (sheetTests sheet) = all-pass (sheetTests sheet) e in
-    let more = cond (hasFlowRows sheet) (flowSection ∷ []) [] in
-    let rs = walk-pass sheet reachCountAt reachSection (rowSection ∷ gaugeSection ∷ more) (t .1 .0) in
+    let more = since 2 (edition sheet) (flowSection ∷ []) [] in
+    let rs = walk-pass sheet reachCountAt (reachSection (edition sheet)) (rowSection ∷ gaugeSection ∷ more) (t .1 .0) in
     let bs = walk-pass sheet (rowCountAt sheet) rowSection (gaugeSection ∷ more) (rs .1) in
     let gs = walk-pass sheet (gaugeCountAt sheet) gaugeSection more (bs .1) in
-    let fs = last-section sheet (flowRowCountAt sheet) (hasFlowRows sheet) (gs .1) (gs .0 .ends) in
     let last : length sheet ≤ sheetEnd sheet = ltb-false _ _ (test-pass 4 _ (t .1 .1 .0)) in
     let head = header-field sheet (test-pass 5 _ (t .1 .1 .1 .0)) in
     let inside : (i : ℕ) → i < reachCount sheet → ReachWithin (reachOn sheet i) =
-    λ i h. reach-within sheet i (each-pass 6 reach _ (λ i. anyOutside reachRanges (reachFields sheet i)) (t .1 .1 .1 .1 .0) i h) in
+    λ i h. reach-within sheet i (each-pass 6 reach _ (λ i. anyOutside (reachRanges (edition sheet)) (reachFields sheet i)) (t .1 .1 .1 .1 .0) i h) in
     let rows = rowFault (stepsM sheet) (rowStarts sheet) (rowConcentrations sheet) in
     let flowRows = flowRowFault (stepsM sheet) (flowRowStarts sheet) (flowRowTops sheet) in
     record {
-      marked = test-pass 1 _ (t .0);
       reachCounts = rs .0 .counts;
       rowCounts = bs .0 .counts;
       gaugeCounts = gs .0 .counts;
-      flowRowCounts = fs .1;
-      ends = le-antisymm last (fs .0);
+      flowRowCounts = last-count sheet (flowRowCountAt sheet) (leb 2 (edition sheet)) (gs .1);
+      ends = le-antisymm last (walk-ends sheet (flowRowCountAt sheet) more (gs .1) (gs .0 .ends));
       dt = head 0 (lit< tt);
       dx = head 1 (lit< tt);
       steps = head 2 (lit< tt);

@@ -1,7 +1,7 @@
--- Laws of `walk`, for a loop that goes from section to section.
+-- Laws of `walk` and `sectionsEnd`, for loops that go from section to section.
 use mathlib.Core.Path.{_≡_, refl, sym, _∙_}
 use mathlib.Core.Bool.{true, false, cond}
-use mathlib.Core.List.{List, _∷_}
+use mathlib.Core.List.{List, [], _∷_}
 use Prim.Native.Nat.{ℕ, _+_, _<_, _≤_}
 use native.Mathlib.Numerals.{add-one}
 use borrow.Author.Tests.{lt-ltb, le-ltb, ltb-false}
@@ -9,7 +9,7 @@ use lib.Dec.{ltb}
 use lib.ListN.{length, getD, drop, drop-of-length-le}
 use lib.Seq.{drop-cons}
 use Rattle.model.specs.Ranges.{Section, outside}
-use Rattle.model.specs.Sheet.{field, sectionEnd}
+use Rattle.model.specs.Sheet.{field, sectionEnd, sectionsEnd}
 use Rattle.model.specs.Refusals.{passes, fails, nothing}
 use Rattle.model.specs.Load.{walk}
 use Rattle.sheet.proofs.Tests.{cond-pass}
@@ -47,6 +47,23 @@ module _ {sheet : List ℕ} {from : ℕ} {sections : List Section} {k at : ℕ} 
         unfolding walk
         walking-on m = record { rest = sym (rw (drop-cons sections k none h, ← e, le-ltb _ _ l, o, le-ltb _ _ m, add-one)) ∙ r .rest }
 
+-- k sections lie behind `at`, for a loop that looks for the end
+pub record Ending (sheet : List ℕ) (from : ℕ) (sections : List Section) (k at : ℕ) : Type 0 where
+  pub rest : sectionsEnd sheet at (drop k sections) ≡ sectionsEnd sheet from sections
+
+pub ending-start : {sheet : List ℕ} {from : ℕ} {sections : List Section} → Ending sheet from sections 0 from
+ending-start = record { rest = refl }
+
+module _ {sheet : List ℕ} {from : ℕ} {sections : List Section} {k at : ℕ} (r : Ending sheet from sections k at) where
+  pub ending-end : length sections ≤ k → at ≡ sectionsEnd sheet from sections
+  unfolding sectionsEnd
+  ending-end h = sym (rw (drop-of-length-le sections {i = k} h)) ∙ r .rest
+
+  pub ending-on : (none : Section) → k < length sections → (section : Section) → section ≡ getD sections k none →
+      Ending sheet from sections (k + 1) (sectionEnd sheet at section)
+  unfolding sectionsEnd
+  ending-on none h section e = record { rest = sym (rw (drop-cons sections k none h, ← e, add-one)) ∙ r .rest }
+
 -- a section that the walk passed
 pub record Complete (sheet : List ℕ) (at : ℕ) (section : Section) : Type 0 where
   pub counts : Within (section .counts) (field sheet at)
@@ -64,3 +81,11 @@ walk-pass sheet at section more e =
     let ranged = cond-pass wrong 3 nothing after (counted .1) in
     let ended = cond-pass cut 2 nothing (walk sheet end more) (ranged .1) in
     (record { counts = within _ _ (ranged .0); ends = ltb-false _ _ (ended .0) }, ended .1)
+
+-- sections that the walk passed end on the sheet
+pub walk-ends : (sheet : List ℕ) (at : ℕ) (sections : List Section) → walk sheet at sections ≡ passes → at ≤ length sheet →
+    sectionsEnd sheet at sections ≤ length sheet
+unfolding sectionsEnd
+walk-ends sheet at [] e h = h
+walk-ends sheet at (section ∷ more) e h =
+    let w = walk-pass sheet at section more e in walk-ends sheet (sectionEnd sheet at section) more (w .1) (w .0 .ends)

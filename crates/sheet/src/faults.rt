@@ -5,7 +5,7 @@ ghost use Prim.Native.Nat.{ℕ, _<_};
 ghost use lib.ListN.{getD};
 ghost use Rattle.model.specs.Ranges.{_to_, anyOutside, headerRanges, reachRanges, reachSection};
 ghost use Rattle.lists.specs.Lists.{notRising};
-ghost use Rattle.model.specs.Sheet.{header, stepsM, reachCount, reachFields};
+ghost use Rattle.model.specs.Sheet.{edition, header, stepsM, reachCount, reachFields};
 ghost use Rattle.model.specs.Refusals as Document;
 ghost use Rattle.model.specs.Refusals.{testEach};
 ghost use Rattle.model.specs.Load.{startsLate, rowFault, gaugeFault, flowRowFault};
@@ -13,6 +13,8 @@ ghost use Rattle.terms.specs.Says.{findingSays};
 ghost use Rattle.lists.specs.Lent.{entry};
 ghost use Rattle.limits.specs.Says.{rangeSays};
 ghost use Rattle.sheet.specs.Entries.{Before, IsRow, IsGauge, countOf, risingOf, faultOf};
+use crate::editions::edition;
+use crate::editions::reach_section;
 use crate::fields::dt;
 use crate::fields::dx;
 use crate::fields::flow_row_count;
@@ -57,7 +59,7 @@ pub fn header_fault(sheet: &[u8]) -> bool
         | outside(FLOW, top_flow(sheet) as u64)
 }
 
-// A reach's 16 fields, in the sheet's order.
+// A reach's fields, in the sheet's order.
 const REACH_RANGES: [Range; REACH_WIDTH] = [
     SEGMENTS,
     DISPERSION,
@@ -77,20 +79,25 @@ const REACH_RANGES: [Range; REACH_WIDTH] = [
     CONCENTRATION, // start figure
 ];
 
-fn reach_range(k: usize) -> Range
-    requires { ⌜ k < reachSection .width ⌝ }
-    ensures { λ r. ⌜ rangeSays r ≡ getD reachRanges k (0 to 0) ⌝ }
+fn reach_range(edition: u32, k: usize) -> Range
+    requires { ⌜ k < reachSection edition .width ⌝ }
+    ensures { λ r. ⌜ rangeSays r ≡ getD (reachRanges edition) k (0 to 0) ⌝ }
 {
     REACH_RANGES[k]
 }
 
 // A field of reach i is outside its range.
 pub fn reach_fault(sheet: &[u8], i: usize) -> bool
-    ensures { λ r. ⌜ r ≡ anyOutside reachRanges (reachFields (entry sheet) i) ⌝ }
+    ensures { λ r. ⌜ r ≡ anyOutside (reachRanges (edition (entry sheet))) (reachFields (entry sheet) i) ⌝ }
 {
+    let edition = edition(sheet);
+    let width = reach_section(edition).width as usize;
     let mut k: usize = 0;
-    while k < REACH_WIDTH {
-        if outside(reach_range(k), reach_field(sheet, i, k) as u64) {
+    while k < width {
+        if outside(
+            reach_range(edition, k),
+            reach_field(sheet, edition, i, k) as u64,
+        ) {
             return true;
         }
         k += 1;
@@ -101,7 +108,7 @@ pub fn reach_fault(sheet: &[u8], i: usize) -> bool
 // 6. "A reach field is outside its range (reach)."
 pub fn reach_test(sheet: &[u8]) -> Finding
     ensures { λ r. let s = entry sheet in ⌜ findingSays r ≡ testEach 6 Document.reach (reachCount s)
-        (λ i. anyOutside reachRanges (reachFields s i)) ⌝ }
+        (λ i. anyOutside (reachRanges (edition s)) (reachFields s i)) ⌝ }
 {
     let count = reach_count(sheet);
     let mut i: u32 = 0;

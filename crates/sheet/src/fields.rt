@@ -3,22 +3,23 @@ ghost use mathlib.Core.Path.{_≡_};
 ghost use Prim.Native.Nat.{_+_, _*_, _^_, _<_};
 ghost use lib.ListN.{getD};
 ghost use Rattle.model.specs.Ranges.{reachSection, rowSection, gaugeSection};
-ghost use Rattle.model.specs.Sheet.{flowRowCountAt, flowRowCount, flowRowsAt, flowRowStart, flowRowTop};
+ghost use Rattle.model.specs.Sheet.{flowRowCountAt, flowRowCount, flowRowStart, flowRowTop};
+ghost use Rattle.model.specs.Load.{loaded};
 ghost use Rattle.model.specs.Flow.{topOf, flowInForce};
 ghost use Rattle.model.specs.Sheet.{field, headerField, dt, dx, stepsM, interval, topFlow, recordField, reachOn, segmentCount};
-ghost use Rattle.model.specs.Sheet.{reachCountAt, rowCountAt, gaugeCountAt, sheetEnd, reachCount, rowCount, gaugeCount, rowsAt, gaugesAt};
+ghost use Rattle.model.specs.Sheet.{reachCountAt, rowCountAt, gaugeCountAt, reachCount, rowCount, gaugeCount};
 ghost use Rattle.terms.specs.Says.{reachSays};
 ghost use Rattle.lists.specs.Lent.{entry};
 ghost use Rattle.limits.specs.Says.{sectionSays};
+use crate::editions::edition;
+use crate::editions::reach_section;
 use crate::layout::REACH_COUNT_AT;
 use crate::layout::SIZE;
 use crate::layout::product;
 use crate::layout::section_end;
 use crate::layout::sum;
-use crate::marks::has_flow_rows;
 use limits::FLOW_ROWS;
 use limits::GAUGES;
-use limits::REACHES;
 use limits::ROWS;
 use limits::Section;
 use terms::Reach;
@@ -98,11 +99,11 @@ pub fn top_flow(sheet: &[u8]) -> u32
     header_field(sheet, 4)
 }
 
-// Where the counts of rows, gauges and flow rows stand, and where the sheet ends: all far below the highest usize.
+// Where the counts of rows, gauges and flow rows stand: all far below the highest usize.
 pub fn row_count_at(sheet: &[u8]) -> usize
     ensures { λ r. ⌜ (r ≡ rowCountAt (entry sheet)) × (r < 2 ^ 40) ⌝ }
 {
-    section_end(sheet, REACH_COUNT_AT, REACHES)
+    section_end(sheet, REACH_COUNT_AT, reach_section(edition(sheet)))
 }
 
 pub fn gauge_count_at(sheet: &[u8]) -> usize
@@ -116,16 +117,6 @@ fn flow_row_count_at(sheet: &[u8]) -> usize
     ensures { λ r. ⌜ (r ≡ flowRowCountAt (entry sheet)) × (r < 2 ^ 42) ⌝ }
 {
     section_end(sheet, gauge_count_at(sheet), GAUGES)
-}
-
-pub fn sheet_end(sheet: &[u8]) -> usize
-    ensures { λ r. ⌜ r ≡ sheetEnd (entry sheet) ⌝ }
-{
-    let at = flow_row_count_at(sheet);
-    if has_flow_rows(sheet) {
-        return section_end(sheet, at, FLOW_ROWS);
-    }
-    at
 }
 
 pub fn reach_count(sheet: &[u8]) -> u32
@@ -150,62 +141,63 @@ pub fn gauge_count(sheet: &[u8]) -> u32
 pub fn flow_row_count(sheet: &[u8]) -> u32
     ensures { λ r. ⌜ r ≡ flowRowCount (entry sheet) ⌝ }
 {
-    if has_flow_rows(sheet) {
-        return field(sheet, flow_row_count_at(sheet));
+    if edition(sheet) < 2 {
+        return 0;
     }
-    0
+    field(sheet, flow_row_count_at(sheet))
 }
 
 // Where the rows and the gauges begin: the first byte behind their count.
 pub fn rows_at(sheet: &[u8]) -> usize
-    ensures { λ r. ⌜ r ≡ rowsAt (entry sheet) ⌝ }
+    ensures { λ r. ⌜ r ≡ rowCountAt (entry sheet) + 4 ⌝ }
 {
     row_count_at(sheet) + SIZE
 }
 
 pub fn gauges_at(sheet: &[u8]) -> usize
-    ensures { λ r. ⌜ r ≡ gaugesAt (entry sheet) ⌝ }
+    ensures { λ r. ⌜ r ≡ gaugeCountAt (entry sheet) + 4 ⌝ }
 {
     gauge_count_at(sheet) + SIZE
 }
 
 // 0 on a sheet without flow rows.
 pub fn flow_rows_at(sheet: &[u8]) -> usize
-    ensures { λ r. ⌜ r ≡ flowRowsAt (entry sheet) ⌝ }
+    ensures { λ r. ⌜ r ≡ loaded (entry sheet) .flowRowsAt ⌝ }
 {
-    if has_flow_rows(sheet) {
-        return flow_row_count_at(sheet) + SIZE;
+    if edition(sheet) < 2 {
+        return 0;
     }
-    0
+    flow_row_count_at(sheet) + SIZE
 }
 
-// Field k of reach i; reaches, rows and gauges count from 0 here.
-pub fn reach_field(sheet: &[u8], i: usize, k: usize) -> u32
-    ensures { λ r. ⌜ r ≡ recordField (entry sheet) reachCountAt reachSection i k ⌝ }
+// Field k of reach i on a sheet of this edition; reaches, rows and gauges count from 0 here.
+pub fn reach_field(sheet: &[u8], edition: u32, i: usize, k: usize) -> u32
+    ensures { λ r. ⌜ r ≡ recordField (entry sheet) reachCountAt (reachSection edition) i k ⌝ }
 {
-    record_field(sheet, REACH_COUNT_AT, REACHES, i, k)
+    record_field(sheet, REACH_COUNT_AT, reach_section(edition), i, k)
 }
 
 pub fn reach(sheet: &[u8], i: usize) -> Reach
     ensures { λ r. ⌜ reachSays r ≡ reachOn (entry sheet) i ⌝ }
 {
+    let edition = edition(sheet);
     Reach {
-        segments: reach_field(sheet, i, 0),
-        dispersion: reach_field(sheet, i, 1),
-        area: reach_field(sheet, i, 2),
-        area2: reach_field(sheet, i, 3),
-        alpha: reach_field(sheet, i, 4),
-        qin: reach_field(sheet, i, 5),
-        qout: reach_field(sheet, i, 6),
-        cl: reach_field(sheet, i, 7),
-        lambda: reach_field(sheet, i, 8),
-        lambda2: reach_field(sheet, i, 9),
-        lamhat: reach_field(sheet, i, 10),
-        lamhat2: reach_field(sheet, i, 11),
-        rho: reach_field(sheet, i, 12),
-        kd: reach_field(sheet, i, 13),
-        cb: reach_field(sheet, i, 14),
-        start: reach_field(sheet, i, 15),
+        segments: reach_field(sheet, edition, i, 0),
+        dispersion: reach_field(sheet, edition, i, 1),
+        area: reach_field(sheet, edition, i, 2),
+        area2: reach_field(sheet, edition, i, 3),
+        alpha: reach_field(sheet, edition, i, 4),
+        qin: reach_field(sheet, edition, i, 5),
+        qout: reach_field(sheet, edition, i, 6),
+        cl: reach_field(sheet, edition, i, 7),
+        lambda: reach_field(sheet, edition, i, 8),
+        lambda2: reach_field(sheet, edition, i, 9),
+        lamhat: reach_field(sheet, edition, i, 10),
+        lamhat2: reach_field(sheet, edition, i, 11),
+        rho: reach_field(sheet, edition, i, 12),
+        kd: reach_field(sheet, edition, i, 13),
+        cb: reach_field(sheet, edition, i, 14),
+        start: reach_field(sheet, edition, i, 15),
     }
 }
 
@@ -270,6 +262,7 @@ pub fn flow_in_force(sheet: &[u8], j: u32) -> u32
 pub fn segment_count(sheet: &[u8]) -> usize
     ensures { λ r. ⌜ r ≡ segmentCount (entry sheet) ⌝ }
 {
+    let edition = edition(sheet);
     let count = reach_count(sheet) as usize;
     let mut total: usize = 0;
     let mut i: usize = 0;
@@ -277,7 +270,7 @@ pub fn segment_count(sheet: &[u8]) -> usize
         if sheet.len() <= i {
             return total;
         }
-        total += reach_field(sheet, i, 0) as usize;
+        total += reach_field(sheet, edition, i, 0) as usize;
         i += 1;
     }
     total

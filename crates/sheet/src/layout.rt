@@ -1,6 +1,6 @@
 // Where things stand on a sheet. No slice reaches the highest usize, so a position that is not below it counts as that one: either is past the end.
 ghost use mathlib.Core.Path.{_≡_};
-ghost use Prim.Native.Nat.{_+_, _*_, _-_, _^_, _<_, _≤_, min};
+ghost use Prim.Native.Nat.{_+_, _*_, _-_, _^_, _<_, min};
 ghost use Rattle.model.specs.Sheet.{sectionEnd};
 ghost use Rattle.lists.specs.Lent.{entry};
 ghost use Rattle.limits.specs.Says.{sectionSays};
@@ -45,7 +45,7 @@ pub fn product(a: usize, b: usize) -> usize
 
 // Where a section ends whose count stands at `at`.
 pub fn section_end(sheet: &[u8], at: usize, section: Section) -> usize
-    requires { ⌜ (at < 2 ^ 42) × (section .width ≤ 16) ⌝ }
+    requires { ⌜ (at < 2 ^ 60) × (section .width < 32) ⌝ }
     ensures { λ r. ⌜ (r ≡ sectionEnd (entry sheet) at (sectionSays section)) × (r < at + 2 ^ 39) ⌝ }
 {
     at + SIZE + SIZE * ((section.width as usize) * (field(sheet, at) as usize))

@@ -6,25 +6,25 @@ ghost use Rattle.model.specs.Load.{sheetTests};
 ghost use Rattle.terms.specs.Says.{findingSays};
 ghost use Rattle.lists.specs.Lent.{entry};
 
+mod editions;
 pub mod faults;
 pub mod fields;
 mod layout;
-pub mod marks;
 pub mod rows;
 mod walks;
 
+use editions::edition;
 use faults::Entries;
 use faults::entries_test;
 use faults::header_fault;
 use faults::reach_test;
 use fields::segment_count;
-use fields::sheet_end;
 use fields::steps;
 pub use layout::LONGEST;
 use limits::MOST_SEGMENTS;
-use marks::unmarked;
 use terms::Finding;
 use terms::Place;
+use walks::sheet_end;
 use walks::walk;
 
 // What a test of this number finds, where its place is nothing.
@@ -42,7 +42,7 @@ fn kth_test(sheet: &[u8], k: u32) -> Finding
     ensures { λ r. ⌜ findingSays r ≡ getD (sheetTests (entry sheet)) k passes ⌝ }
 {
     match k {
-        0 => finding(1, unmarked(sheet)),
+        0 => finding(1, edition(sheet) == 0),
         1 => walk(sheet),
         2 => finding(4, sheet_end(sheet) < sheet.len()),
         3 => finding(5, header_fault(sheet)),

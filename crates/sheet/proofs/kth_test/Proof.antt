@@ -15,7 +15,7 @@ next h e = omega arith
 
 returns : tie.Need-returns
 unfolding sheetTests
-returns c = rw (c .before .before .match .keys1) (rw (c .before .unmarked .ensures) at (c .finding .ensures))
+returns c = rw (c .before .before .match .keys1) (rw (c .before .edition .ensures) at (c .finding .ensures))
 
 returns-2 : tie.Need-returns-2
 unfolding sheetTests

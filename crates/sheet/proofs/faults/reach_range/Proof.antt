@@ -9,7 +9,7 @@ use Rattle.sheet.proofs.faults.reach_range.Statement.{statement}
 use Rattle.sheet.proofs.faults.reach_range.Tie as tie
 
 returns : tie.Need-returns
-returns c = ap rangeSays (List·getD-map codedRange reachRanges (c .before .args .k) (0 to 0))
+returns c = let a = c .before .args in ap rangeSays (List·getD-map codedRange (reachRanges (a .edition)) (a .k) (0 to 0))
 
 pub reach-range-spec : {M : Type 1} → statement M
 reach-range-spec = tie.close (tie.spec (λ c. search needs) (λ c. search needs) returns)

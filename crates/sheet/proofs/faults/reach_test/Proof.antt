@@ -4,14 +4,14 @@ use Prim.Native.Nat.{_-_}
 use native.Mathlib.Omega.{arith}
 use Rattle.lists.proofs.Lowest.{Searching, searching-start, searching-miss}
 use Rattle.model.specs.Ranges.{anyOutside, reachRanges}
-use Rattle.model.specs.Sheet.{reachCount, reachFields}
+use Rattle.model.specs.Sheet.{edition, reachCount, reachFields}
 use Rattle.model.specs.Refusals.{reach}
 use Rattle.sheet.proofs.Tests.{each-found, each-clear}
 use Rattle.sheet.proofs.faults.reach_test.Statement.{statement}
 use Rattle.sheet.proofs.faults.reach_test.Tie as tie
 
 abbrev Inv-loop : tie.InvT-loop
-Inv-loop sheet count i₀ i = Searching (λ i. anyOutside reachRanges (reachFields sheet i)) (reachCount sheet) i
+Inv-loop sheet count i₀ i = Searching (λ i. anyOutside (reachRanges (edition sheet)) (reachFields sheet i)) (reachCount sheet) i
 
 abbrev μ-loop : tie.MeasureT-loop
 μ-loop sheet count i₀ i = count - i

@@ -1,12 +1,12 @@
 -- `gauge_count_at` meets its contract. Assumes nothing.
 use native.Mathlib.Omega.{arith}
-use Rattle.model.specs.Sheet.{gaugeCountAt}
+use Rattle.model.specs.Sheet.{countAt, sectionsEnd, sections}
 use borrow.Author.Needs.{needs}
 use Rattle.sheet.proofs.fields.gauge_count_at.Statement.{statement}
 use Rattle.sheet.proofs.fields.gauge_count_at.Tie as tie
 
 returns : tie.Need-returns
-unfolding gaugeCountAt
+unfolding countAt sectionsEnd sections
 returns c = (rw (← c .before .row-count-at .ensures .0) (c .section-end .ensures .0), omega arith)
 
 pub gauge-count-at-spec : {M : Type 1} → statement M

@@ -1,4 +1,4 @@
--- `section_end` meets its contract: at most 16 fields of 4 bytes for each of at most 2^32 records. Assumes nothing.
+-- `section_end` meets its contract: at most 31 fields of 4 bytes for each of at most 2^32 records. Assumes nothing.
 use Prim.Native.Nat.{_*_, _^_, _≤_}
 use native.Mathlib.Nat.{mul-le-mul}
 use native.Mathlib.Omega.{arith}
@@ -7,8 +7,8 @@ use Rattle.sheet.proofs.layout.section_end.Statement.{statement}
 use Rattle.sheet.proofs.layout.section_end.Tie as tie
 
 -- the fields of the section
-few : (c : tie.After-field) → c .before .before .before .args .section .width * c .field .result ≤ 16 * 2 ^ 32
-few c = mul-le-mul {n₂ = 16} {m₂ = 2 ^ 32} (omega arith) (omega arith)
+few : (c : tie.After-field) → c .before .before .before .args .section .width * c .field .result ≤ 31 * 2 ^ 32
+few c = mul-le-mul {n₂ = 31} {m₂ = 2 ^ 32} (omega arith) (omega arith)
 
 mul-result : tie.Need-mul-result
 mul-result c = omega (arith, few c)

@@ -5,8 +5,8 @@ use native.Mathlib.Omega.{arith}
 use borrow.Author.Needs.{needs}
 use lib.ListN.{length}
 use Rattle.sheet.proofs.Marked.{Matching, matching-start, matching-end, matching-short, matching-other, matching-same}
-use Rattle.sheet.proofs.marks.starts_with.Statement.{statement}
-use Rattle.sheet.proofs.marks.starts_with.Tie as tie
+use Rattle.sheet.proofs.editions.starts_with.Statement.{statement}
+use Rattle.sheet.proofs.editions.starts_with.Tie as tie
 
 abbrev Inv-loop : tie.InvT-loop
 Inv-loop sheet mark i₀ i = Matching mark sheet i × (i ≤ length mark)

@@ -1,0 +1,27 @@
+-- `edition` meets its contract, of each mark and of none. Assumes nothing.
+use mathlib.Core.Path.{sym, _∙_}
+use borrow.Author.Needs.{needs}
+use Rattle.model.specs.Sheet.{edition}
+use Rattle.sheet.proofs.editions.edition.Statement.{statement}
+use Rattle.sheet.proofs.editions.edition.Tie as tie
+
+returns : tie.Need-returns
+unfolding edition
+returns c = rw (sym (c .before .starts-with .ensures) ∙ c .if1 .taken)
+
+returns-2 : tie.Need-returns-2
+unfolding edition
+returns-2 c =
+    let one = c .before .before .before in
+    rw (sym (one .before .starts-with .ensures) ∙ one .if1 .left, sym (c .before .starts-with2 .ensures) ∙ c .if2 .taken)
+
+returns-3 : tie.Need-returns-3
+unfolding edition
+returns-3 c =
+    let one = c .before .before .before in
+    rw (sym (one .before .starts-with .ensures) ∙ one .if1 .left, sym (c .before .starts-with2 .ensures) ∙ c .if2 .left)
+
+pub edition-spec : {M : Type 1} → statement M
+edition-spec =
+    tie.close
+    (tie.spec (λ c. search needs) (λ c κs. tt) returns (λ c. search needs) (λ c κs. tt) returns-2 returns-3)

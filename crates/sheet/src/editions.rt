@@ -1,0 +1,71 @@
+// The mark, read as the number of an edition, and the sections that a sheet of that edition has.
+ghost use mathlib.Core.Path.{_≡_};
+ghost use mathlib.Core.List.{List};
+ghost use Prim.Native.Nat.{ℕ, _<_, _≤_};
+ghost use lib.ListN.{length, getD};
+ghost use Rattle.model.specs.Ranges.{reachSection, flowSection};
+ghost use Rattle.model.specs.Sheet as Document;
+ghost use Rattle.model.specs.Sheet.{startsWith, edition, sections};
+ghost use Rattle.lists.specs.Lent.{entry};
+ghost use Rattle.limits.specs.Says.{sectionSays};
+use limits::FLOW_ROWS;
+use limits::GAUGES;
+use limits::REACHES;
+use limits::ROWS;
+use limits::Section;
+
+// The sheet starts with these bytes.
+fn starts_with(sheet: &[u8], mark: &[u8]) -> bool
+    ensures { λ r. ⌜ r ≡ startsWith (entry mark) (entry sheet) ⌝ }
+{
+    let mut i: usize = 0;
+    while i < mark.len() {
+        if sheet.len() <= i {
+            return false;
+        }
+        if sheet[i] != mark[i] {
+            return false;
+        }
+        i += 1;
+    }
+    true
+}
+
+// 0 for "Fewer than four bytes, or another mark."
+pub fn edition(sheet: &[u8]) -> u32
+    ensures { λ r. ⌜ r ≡ edition (entry sheet) ⌝ }
+{
+    if starts_with(sheet, b"OTR1") {
+        return 1;
+    }
+    if starts_with(sheet, b"OTR2") {
+        return 2;
+    }
+    0
+}
+
+// The reaches, of the same width in every edition so far.
+pub fn reach_section(edition: u32) -> Section
+    ensures { λ r. ⌜ (sectionSays r ≡ reachSection edition) × (r .width < 32) ⌝ }
+{
+    REACHES
+}
+
+// How many sections a sheet of this edition has.
+pub fn section_count(edition: u32) -> usize
+    ensures { λ r. ⌜ ((s : List ℕ) → Document.edition s ≡ edition → r ≡ length (sections s)) × (r ≤ 4) ⌝ }
+{
+    if edition < 2 { 3 } else { 4 }
+}
+
+// Section k of them.
+pub fn section_of(edition: u32, k: usize) -> Section
+    ensures { λ r. ⌜ ((s : List ℕ) → Document.edition s ≡ edition → sectionSays r ≡ getD (sections s) k flowSection) × (r .width < 32) ⌝ }
+{
+    match k {
+        0 => reach_section(edition),
+        1 => ROWS,
+        2 => GAUGES,
+        _ => FLOW_ROWS,
+    }
+}
