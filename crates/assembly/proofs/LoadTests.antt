@@ -8,16 +8,17 @@ use native.Mathlib.Nat.{eq-or-lt-of-le}
 use native.Mathlib.Omega.{arith}
 use borrow.Author.Tests.{lt-ltb, le-ltb, ltb-false}
 use lib.Dec.{ltb}
+use lib.ListN.{take}
 use Rattle.lists.specs.Lists.{anyShorter}
 use Rattle.lists.proofs.Shorter.{neither, all-long}
 use Rattle.model.specs.Sheet.{reachCount, flowRowCount, segmentCount}
 use Rattle.model.specs.Flow.{courseOf}
 use Rattle.model.specs.State.{Columns, columnLists}
-use Rattle.model.specs.Refusals.{Place, nothing, segment, Finding, passes, fails, testEach, test, first, answer}
+use Rattle.model.specs.Refusals.{nothing, segment, Finding, passes, fails, testEach, test, first, answer}
 use Rattle.model.specs.Load.{testFlows, loaded, sheetTests, courseTests, riverTests, listTests, loadTests, loadAnswer, columnsAfter, loadColumns}
-use Rattle.model.proofs.Refusals.{first-of, first-rest, first-front, first-both, all-pass, flows-clear, each-clear, test-clear}
+use Rattle.model.proofs.Refusals.{first-of, first-both, all-pass, flows-clear, each-clear, test-clear}
 use Rattle.terms.proofs.Lengths.{columns-first}
-use Rattle.course.specs.Segments.{courseFault, ClearFlows}
+use Rattle.course.specs.Segments.{courseFault, ClearFlows, Read}
 use Rattle.assembly.specs.Fit.{Fit}
 
 -- test k of tests 10 to 12, with every flow in turn
@@ -45,17 +46,6 @@ clear-next {number} {n} {sheet} c e = record {
 
     below : (k : ℕ) → k < suc number → k ≤ number
     below k h = omega arith
-
--- tests that have passed in front, and the ones that are left
-pub record Judging (tests left : List Finding) : Type 0 where
-  pub rest : first left ≡ first tests
-
-module _ {tests left : List Finding} {f : Finding} (r : Judging tests (f ∷ left)) where
-  pub judging-on : f ≡ passes → Judging tests left
-  judging-on e = record { rest = sym (rw e) ∙ r .rest }
-
-  pub judging-stop : {number : ℕ} {place : Place} → f ≡ fails number place → fails number place ≡ first tests
-  judging-stop e = sym (rw e) ∙ r .rest
 
 -- one test by itself
 pub first-one : (f : Finding) → first (f ∷ []) ≡ f
@@ -88,12 +78,25 @@ module _ (sheet : List ℕ) where
   unfolding sheetTests courseTests courseFault
   river-tests n q = ap (λ k. sheetTests sheet ++ later sheet k) (sym q)
 
-  -- a sheet that its own tests pass, and one that they refuse
-  pub sheet-passes : (n : ℕ) → n ≡ segmentCount sheet → first (sheetTests sheet) ≡ passes → Judging (riverTests sheet) (later sheet n)
-  sheet-passes n q e = record { rest = rw (river-tests n q) (sym (first-rest (sheetTests sheet) (later sheet n) e)) }
+  -- what the tests before 10, 11 and 12 leave for them
+  module _ {n : ℕ} (q : n ≡ segmentCount sheet) where
+    pub before-10 : first (take 9 (riverTests sheet)) ≡ passes → Read sheet n × ClearFlows 10 n sheet
+    unfolding sheetTests
+    before-10 e = (record { passed = e; count = q }, clear-start)
 
-  pub sheet-fails : {number : ℕ} {place : Place} → first (sheetTests sheet) ≡ fails number place → fails number place ≡ first (riverTests sheet)
-  sheet-fails e = rw (river-tests _ refl) (sym (first-front (sheetTests sheet) (later sheet (segmentCount sheet)) e))
+    pub before-11 : first (take 10 (riverTests sheet)) ≡ passes → Read sheet n × ClearFlows 11 n sheet
+    unfolding sheetTests courseTests courseFault
+    before-11 e =
+        let both = first-both (sheetTests sheet) (take 1 (later sheet (segmentCount sheet))) e in
+        let all = all-pass (take 1 (later sheet (segmentCount sheet))) (both .1) in
+        (record { passed = both .0; count = q }, rw q (clear-next clear-start (all .0)))
+
+    pub before-12 : first (take 11 (riverTests sheet)) ≡ passes → Read sheet n × ClearFlows 12 n sheet
+    unfolding sheetTests courseTests courseFault
+    before-12 e =
+        let both = first-both (sheetTests sheet) (take 2 (later sheet (segmentCount sheet))) e in
+        let all = all-pass (take 2 (later sheet (segmentCount sheet))) (both .1) in
+        (record { passed = both .0; count = q }, rw q (clear-next (clear-next clear-start (all .0)) (all .1 .0)))
 
 module _ (sheet : List ℕ) (row records : ℕ) (x : Columns) where
   -- what the tests leave where all pass

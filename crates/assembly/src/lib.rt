@@ -1,9 +1,9 @@
 // A loading over plain lists: any bytes in, half-step numbers or a numbered refusal out. Of the list of reach records it is handed the length.
 ghost use mathlib.Core.Path.{_≡_};
 ghost use mathlib.Core.List.{_∷_, map};
-ghost use lib.ListN.{length};
+ghost use lib.ListN.{length, getD, take};
 ghost use Rattle.model.specs.State.{Columns, columnLists};
-ghost use Rattle.model.specs.Refusals.{passes, first, answer};
+ghost use Rattle.model.specs.Refusals.{passes, test, first, answer};
 ghost use Rattle.model.specs.Load.{riverTests, listTests, loaded, loadAnswer, columnsAfter, loadColumns};
 ghost use Rattle.terms.specs.Says.{findingSays};
 ghost use Rattle.lists.specs.Lent.{entry, exit};
@@ -13,7 +13,13 @@ ghost use Rattle.assembly.specs.Says.{loadedSays, loadSays};
 ghost use Rattle.assembly.specs.Fit.{Fit};
 use columns::fill;
 use course::flows_test;
+use limits::MOST_SEGMENTS;
 use lists::any_short;
+use sheet::editions::edition;
+use sheet::faults::Entries;
+use sheet::faults::entries_test;
+use sheet::faults::header_fault;
+use sheet::faults::reach_test;
 use sheet::fields::flow_row_count;
 use sheet::fields::flow_rows_at;
 use sheet::fields::gauge_count;
@@ -24,6 +30,8 @@ use sheet::fields::row_count;
 use sheet::fields::rows_at;
 use sheet::fields::segment_count;
 use sheet::fields::steps;
+use sheet::walks::sheet_end;
+use sheet::walks::walk;
 use terms::Finding;
 use terms::Place;
 
@@ -46,21 +54,54 @@ pub enum Load {
     Refused(u32, Place),
 }
 
-// Tests 1 to 12 of a sheet, with 16 among them.
+// What a test of this number finds, where its place is nothing.
+fn finding(number: u32, fault: bool) -> Finding
+    ensures { λ r. ⌜ findingSays r ≡ test number fault ⌝ }
+{
+    if fault {
+        return Finding::Fails(number, Place::Nothing);
+    }
+    Finding::Passes
+}
+
+// The tests of a sheet by itself: 1 to 12, with 2 and 3 as one, and 16.
+pub const TESTS: u32 = 12;
+
+// "Tests run in the order of their numbers", 2 and 3 on one walk, "16 .. after 9": what test k of them finds, from 0, where those before it pass.
+// Behind the last nothing is at fault.
+pub fn kth_test(sheet: &[u8], k: u32) -> Finding
+    requires { ⌜ first (take k (riverTests (now sheet))) ≡ passes ⌝ }
+    ensures { λ r. ⌜ findingSays r ≡ getD (riverTests (entry sheet)) k passes ⌝ }
+{
+    match k {
+        0 => finding(1, edition(sheet) == 0),
+        1 => walk(sheet),
+        2 => finding(4, sheet_end(sheet) < sheet.len()),
+        3 => finding(5, header_fault(sheet)),
+        4 => reach_test(sheet),
+        5 => finding(7, (MOST_SEGMENTS as usize) < segment_count(sheet)),
+        6 => entries_test(sheet, 8, Entries::Rows(steps(sheet))),
+        7 => entries_test(sheet, 9, Entries::Gauges(segment_count(sheet))),
+        8 => entries_test(sheet, 16, Entries::FlowRows(steps(sheet))),
+        9 => flows_test(sheet, segment_count(sheet), 10),
+        10 => flows_test(sheet, segment_count(sheet), 11),
+        11 => flows_test(sheet, segment_count(sheet), 12),
+        _ => Finding::Passes,
+    }
+}
+
+// The first of them that fails decides.
 pub fn river_test(sheet: &[u8]) -> Finding
     ensures { λ r. ⌜ findingSays r ≡ first (riverTests (entry sheet)) ⌝ }
 {
-    if let Finding::Fails(number, place) = sheet::sheet_test(sheet) {
-        return Finding::Fails(number, place);
+    let mut k: u32 = 0;
+    while k < TESTS {
+        if let Finding::Fails(number, place) = kth_test(sheet, k) {
+            return Finding::Fails(number, place);
+        }
+        k += 1;
     }
-    let n = segment_count(sheet);
-    if let Finding::Fails(number, place) = flows_test(sheet, n, 10) {
-        return Finding::Fails(number, place);
-    }
-    if let Finding::Fails(number, place) = flows_test(sheet, n, 11) {
-        return Finding::Fails(number, place);
-    }
-    flows_test(sheet, n, 12)
+    Finding::Passes
 }
 
 // Test 13 of a loading, behind what the tests before it find; `row` is the flow row's number, `records` the length of the list of reach records,

@@ -2,7 +2,6 @@
 use mathlib.Core.Path.{_≡_, _∙_}
 use Prim.Native.Nat.{ℕ, suc, _+_, _<_, _≤_}
 use native.Mathlib.Omega.{arith}
-use lib.ListN.{length}
 use Rattle.lists.specs.Lists.{tab}
 use Rattle.lists.proofs.Tab.{length-tab, getD-tab}
 use Rattle.model.specs.Refusals.{Place, Finding, passes, fails}
@@ -17,15 +16,12 @@ pub in-turn-start : {rows : ℕ} {finding : ℕ → Finding} → InTurn rows fin
 in-turn-start = record { judged = judging-start }
 
 module _ {rows row : ℕ} {finding : ℕ → Finding} (t : InTurn rows finding row) where
-  some-left : row ≤ rows → row < length (tab 0 (suc rows) finding)
-  some-left h = rw (length-tab finding 0 (suc rows)) (omega arith)
-
   pub flow-passes : row ≤ rows → finding row ≡ passes → InTurn rows finding (row + 1)
-  flow-passes h e = record { judged = judging-on (t .judged) (some-left h) (getD-tab finding (suc rows) row passes (omega arith) ∙ e) }
+  flow-passes h e = record { judged = judging-on (t .judged) (getD-tab finding (suc rows) row passes (omega arith) ∙ e) }
 
   pub flow-fails : {number : ℕ} {place : Place} → row ≤ rows → finding row ≡ fails number place → fails number place ≡ testFlows rows finding
   unfolding testFlows
-  flow-fails h e = judging-stop (t .judged) (some-left h) (getD-tab finding (suc rows) row passes (omega arith) ∙ e)
+  flow-fails h e = judging-stop (t .judged) (getD-tab finding (suc rows) row passes (omega arith) ∙ e)
 
   pub flows-pass : rows < row → passes ≡ testFlows rows finding
   unfolding testFlows

@@ -16,7 +16,7 @@ use Rattle.model.specs.Sheet.{reachOf, reachOn, reaches, segmentCount}
 use Rattle.model.specs.Sheet.{stepsM, rowStarts, rowConcentrations, gauges, flowRowStarts, flowRowTops}
 use Rattle.model.specs.Refusals.{passes, reach, row, first}
 use Rattle.model.specs.Load.{walk, rowFault, gaugeFault, flowRowFault, sheetTests}
-use Rattle.sheet.proofs.Tests.{AllPass, all-pass, test-pass, each-pass}
+use Rattle.model.proofs.Refusals.{AllPass, all-pass, test-clear, each-clear}
 use Rattle.sheet.proofs.InRange.{Within, all-within}
 use Rattle.sheet.proofs.Walking.{walk-pass, walk-ends}
 use Rattle.sheet.proofs.Segments.{segments-first}
@@ -106,10 +106,10 @@ passed sheet e =
     let rs = walk-pass sheet reachCountAt (reachSection (edition sheet)) (rowSection ∷ gaugeSection ∷ more) (t .1 .0) in
     let bs = walk-pass sheet (rowCountAt sheet) rowSection (gaugeSection ∷ more) (rs .1) in
     let gs = walk-pass sheet (gaugeCountAt sheet) gaugeSection more (bs .1) in
-    let last : length sheet ≤ sheetEnd sheet = ltb-false _ _ (test-pass 4 _ (t .1 .1 .0)) in
-    let head = header-field sheet (test-pass 5 _ (t .1 .1 .1 .0)) in
+    let last : length sheet ≤ sheetEnd sheet = ltb-false _ _ (test-clear 4 _ (t .1 .1 .0)) in
+    let head = header-field sheet (test-clear 5 _ (t .1 .1 .1 .0)) in
     let inside : (i : ℕ) → i < reachCount sheet → ReachWithin (reachOn sheet i) =
-    λ i h. reach-within sheet i (each-pass 6 reach _ (λ i. anyOutside (reachRanges (edition sheet)) (reachFields sheet i)) (t .1 .1 .1 .1 .0) i h) in
+    λ i h. reach-within sheet i (each-clear 6 reach _ (λ i. anyOutside (reachRanges (edition sheet)) (reachFields sheet i)) (t .1 .1 .1 .1 .0) i h) in
     let rows = rowFault (stepsM sheet) (rowStarts sheet) (rowConcentrations sheet) in
     let flowRows = flowRowFault (stepsM sheet) (flowRowStarts sheet) (flowRowTops sheet) in
     record {
@@ -127,9 +127,9 @@ passed sheet e =
       segments =
           record {
             low = some-segment sheet (rs .0 .counts .low) (inside 0 (rs .0 .counts .low));
-            high = ltb-false _ _ (test-pass 7 _ (t .1 .1 .1 .1 .1 .0));
+            high = ltb-false _ _ (test-clear 7 _ (t .1 .1 .1 .1 .1 .0));
           };
-      row = λ j h. row-right _ _ _ j (each-pass 8 row _ rows (t .1 .1 .1 .1 .1 .1 .0) j h);
-      gauge = λ j h. gauge-right _ _ j (each-pass 9 row _ (gaugeFault (segmentCount sheet) (gauges sheet)) (t .1 .1 .1 .1 .1 .1 .1 .0) j h);
-      flowRow = λ j h. flow-row-right _ _ _ j (each-pass 16 row _ flowRows (t .1 .1 .1 .1 .1 .1 .1 .1 .0) j h);
+      row = λ j h. row-right _ _ _ j (each-clear 8 row _ rows (t .1 .1 .1 .1 .1 .1 .0) j h);
+      gauge = λ j h. gauge-right _ _ j (each-clear 9 row _ (gaugeFault (segmentCount sheet) (gauges sheet)) (t .1 .1 .1 .1 .1 .1 .1 .0) j h);
+      flowRow = λ j h. flow-row-right _ _ _ j (each-clear 16 row _ flowRows (t .1 .1 .1 .1 .1 .1 .1 .1 .0) j h);
     }

@@ -1,6 +1,6 @@
 -- `finding` meets its contract. Assumes nothing.
-use Rattle.sheet.proofs.finding.Statement.{statement}
-use Rattle.sheet.proofs.finding.Tie as tie
+use Rattle.assembly.proofs.finding.Statement.{statement}
+use Rattle.assembly.proofs.finding.Tie as tie
 
 returns : tie.Need-returns
 returns c = rw (c .if1 .taken)
