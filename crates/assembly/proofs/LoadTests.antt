@@ -13,17 +13,18 @@ use Rattle.lists.specs.Lists.{anyShorter}
 use Rattle.lists.proofs.Shorter.{neither, all-long}
 use Rattle.model.specs.Sheet.{reachCount, flowRowCount, segmentCount}
 use Rattle.model.specs.Flow.{courseOf}
+use Rattle.model.specs.HalfStep.{siteAt}
 use Rattle.model.specs.State.{Columns, columnLists}
 use Rattle.model.specs.Refusals.{nothing, segment, Finding, passes, fails, testEach, test, first, answer}
 use Rattle.model.specs.Load.{testFlows, loaded, sheetTests, courseTests, riverTests, listTests, loadTests, loadAnswer, columnsAfter, loadColumns}
 use Rattle.model.proofs.Refusals.{first-of, first-both, all-pass, flows-clear, each-clear, test-clear}
 use Rattle.terms.proofs.Lengths.{columns-first}
-use Rattle.course.specs.Segments.{courseFault, ClearFlows, Read}
+use Rattle.course.specs.Segments.{siteFault, ClearFlows, Read}
 use Rattle.assembly.specs.Fit.{Fit}
 
 -- test k of tests 10 to 12, with every flow in turn
 abbrev pub flowsTest : ℕ → ℕ → List ℕ → Finding
-flowsTest k n sheet = testFlows (flowRowCount sheet) (λ row. testEach k segment n (courseFault k (courseOf sheet row)))
+flowsTest k n sheet = testFlows (flowRowCount sheet) (λ row. testEach k segment n (λ i. siteFault k (siteAt (courseOf sheet row) i)))
 
 -- no test of lower number
 pub clear-start : {n : ℕ} {sheet : List ℕ} → ClearFlows 10 n sheet
@@ -35,14 +36,14 @@ clear-next {number} {n} {sheet} c e = record {
   each = λ row q. record {
     each = λ k l m i h.
         ⊎-elim
-        (λ p. ap (λ t. courseFault t (courseOf sheet row) i) p ∙ each-clear number segment n (courseFault number (courseOf sheet row)) (clear row q) i h)
+        (λ p. ap (λ t. siteFault t (siteAt (courseOf sheet row) i)) p ∙ each-clear number segment n (λ i. siteFault number (siteAt (courseOf sheet row) i)) (clear row q) i h)
         (λ p. c .each row q .each k l p i h)
         (eq-or-lt-of-le (below k m));
   };
 }
   where
-    clear : (row : ℕ) → row ≤ flowRowCount sheet → testEach number segment n (courseFault number (courseOf sheet row)) ≡ passes
-    clear = flows-clear (flowRowCount sheet) (λ row. testEach number segment n (courseFault number (courseOf sheet row))) e
+    clear : (row : ℕ) → row ≤ flowRowCount sheet → testEach number segment n (λ i. siteFault number (siteAt (courseOf sheet row) i)) ≡ passes
+    clear = flows-clear (flowRowCount sheet) (λ row. testEach number segment n (λ i. siteFault number (siteAt (courseOf sheet row) i))) e
 
     below : (k : ℕ) → k < suc number → k ≤ number
     below k h = omega arith
@@ -75,7 +76,7 @@ later sheet n = flowsTest 10 n sheet ∷ flowsTest 11 n sheet ∷ flowsTest 12 n
 module _ (sheet : List ℕ) where
   -- tests 1 to 12: those of the sheet's own fields, and the later ones
   river-tests : (n : ℕ) → n ≡ segmentCount sheet → riverTests sheet ≡ sheetTests sheet ++ later sheet n
-  unfolding sheetTests courseTests courseFault
+  unfolding sheetTests courseTests siteFault
   river-tests n q = ap (λ k. sheetTests sheet ++ later sheet k) (sym q)
 
   -- what the tests before 10, 11 and 12 leave for them

@@ -9,8 +9,7 @@ use Rattle.lists.proofs.Tab.{map-tab}
 use Rattle.lists.proofs.Over.{Filling, filling-start, filling-turn, filling-end}
 use Rattle.model.specs.Sheet.{segmentCount}
 use Rattle.model.specs.Flow.{Course, courseOf, reachAt}
-use Rattle.model.specs.HalfStep.{Segment, loadedSegment}
-use Rattle.model.specs.HalfStep as HalfStep
+use Rattle.model.specs.HalfStep.{siteAt, numbers, Segment, loadedSegment}
 use Rattle.model.specs.State.{Columns, loadedSegments, writeSegments}
 use Rattle.terms.specs.Says.{reachSays, numbersSay}
 use Rattle.lists.specs.Lent.{plain}
@@ -126,7 +125,7 @@ writing-end sheet row {before} {lists} w q =
     rw (← e, ← g, ← l, ← a, ← b, ← k, ← ks, ← h, ← m, ← s, ← cl, ← cb, ← kd, ← start)
 
 -- what is written for a segment: its numbers, and the fields of its reach
-pub segment-is : (course : Course) (i : ℕ) (x : Numbers) (own : Reach) → numbersSay x ≡ HalfStep.numbers course i → reachAt course i ≡ reachSays own →
+pub segment-is : (course : Course) (i : ℕ) (x : Numbers) (own : Reach) → numbersSay x ≡ numbers (siteAt course i) → reachSays own ≡ reachAt course i →
     record { numbers = numbersSay x; cl = own .cl; cb = own .cb; kd = own .kd; start = own .start } ≡ loadedSegment course i
 unfolding loadedSegment
-segment-is course i x own n r = rw (← n, r)
+segment-is course i x own n r = rw (← n, ← r)

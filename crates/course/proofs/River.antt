@@ -9,21 +9,20 @@ use lib.Dec.{eqb, leb}
 use lib.ListN.{length}
 use Rattle.lists.proofs.Tab.{length-tab, getD-tab}
 use Rattle.model.specs.Sheet.{Reach, edition, reachOn, reaches, reachCount, segmentCount, dt, dx, sections, sectionEnd, sectionsEnd, countAt, rowCountAt, gaugeCountAt, flowRowCountAt, flowRowCount}
-use Rattle.model.specs.Flow.{Course, topOf, courseOf}
-use Rattle.model.specs.HalfStep as HalfStep
-use Rattle.model.specs.Load.{sumFault, loaded}
+use Rattle.model.specs.Flow.{Course, topOf, courseOf, reachAt}
+use Rattle.model.specs.HalfStep.{Site, siteAt, Numbers, numbers}
+use Rattle.model.specs.Load.{flowFault, faceFault, sumFault, loaded}
 use Rattle.terms.specs.Says.{reachSays}
 use Rattle.terms.specs.declared.Reach as Code
+use Rattle.halfstep.specs.declared.Site as Held
 use Rattle.halfstep.specs.Ranges.{InRange}
 use Rattle.halfstep.specs.Descent.{reachNo, atTop, reachBelow, further, Descends}
-use Rattle.halfstep.specs.Site.{siteOf, flowFaultOf, faceFaultOf, numbersOf, Passes, StandFor}
-use Rattle.halfstep.specs.declared.Site.{Site}
+use Rattle.halfstep.specs.Site.{siteSays, siteOf, Passes, StandFor}
 use Rattle.halfstep.specs.declared.descent.Cursor.{Cursor}
 use Rattle.halfstep.proofs.Descending.{Along, Known}
-use Rattle.halfstep.proofs.Sites.{SiteAt, flow-fault-at, face-fault-at, numbers-at}
-use Rattle.halfstep.proofs.Segments.{Sited, Descended, descended-top, known-at, descends-at, descended-next, below-at, sited}
+use Rattle.halfstep.proofs.Segments.{Descended, descended-top, known-at, descends-at, descended-next, below-at, site-at, fields-at}
 use Rattle.sheet.proofs.Passed.{ReachWithin, passed}
-use Rattle.course.specs.Segments.{courseFault, siteFault, Clear, ClearSite, Read, IsSegment}
+use Rattle.course.specs.Segments.{siteFault, Clear, ClearSite, Read, IsSegment}
 
 -- test 6 leaves the fields in their ranges
 in-range : {r : Reach} → ReachWithin r → InRange r
@@ -67,31 +66,13 @@ few {sheet} r = omega (arith, r .count, passed sheet (r .passed) .segments .high
 pub few-rows : {sheet : List ℕ} {n : ℕ} → Read sheet n → flowRowCount sheet ≤ 64
 few-rows {sheet} r = passed sheet (r .passed) .flowRowCounts
 
--- where the descent stands is a segment of the river
-pub is-segment : {course : Course} {i : ℕ} {site : Site} → Sited course i site → IsSegment course i site
-is-segment s = record {
-  own = s .place .own;
-  above = s .place .above;
-  below = s .place .below;
-  flow = s .place .stream;
-  last = s .place .end;
-  dt = s .place .time;
-  dx = s .place .step;
-  fields = s .fields;
-}
+module _ {course : Course} {i : ℕ} {site : Held.Site} (s : IsSegment course i site) where
+  -- a test of the segment
+  pub site-fault : (number : ℕ) → siteFault number (siteSays site) ≡ siteFault number (siteAt course i)
+  site-fault number = ap (siteFault number) (s .same)
 
-module _ {course : Course} {i : ℕ} {site : Site} (s : IsSegment course i site) where
-  -- what the tests and the numbers of a segment rest on
-  place : SiteAt course i site
-  place = record { own = s .own; above = s .above; below = s .below; stream = s .flow; end = s .last; time = s .dt; step = s .dx }
-
-  -- a test of the segment by itself
-  pub site-fault : (number : ℕ) → siteFault number site ≡ courseFault number course i
-  unfolding siteFault courseFault
-  site-fault number = rw (flow-fault-at place, face-fault-at place, numbers-at place)
-
-  -- tests of lower numbers pass the segment by itself
-  pub clear-site : {number n : ℕ} → 10 ≤ number → Clear number n course → i < n → ClearSite number site
+  -- tests of lower numbers pass it
+  pub clear-site : {number n : ℕ} → 10 ≤ number → Clear number n course → i < n → ClearSite number (siteSays site)
   clear-site low clear h = record {
     low = low;
     fields = s .fields;
@@ -99,12 +80,17 @@ module _ {course : Course} {i : ℕ} {site : Site} (s : IsSegment course i site)
   }
 
   -- the numbers that stand for the segment's are those, where test 12 passes
-  pub numbers-are : {n : ℕ} {given : HalfStep.Numbers} → Clear 13 n course → i < n → StandFor given (numbersOf site) → given ≡ HalfStep.numbers course i
-  unfolding courseFault
-  numbers-are clear h stand = stand .same (rw (numbers-at place) (clear .each 12 (omega arith) (omega arith) i h)) ∙ numbers-at place
+  pub numbers-are : {n : ℕ} {given : Numbers} → Clear 13 n course → i < n → StandFor given (numbers (siteSays site)) → given ≡ numbers (siteAt course i)
+  unfolding siteFault
+  numbers-are clear h stand = stand .same (site-fault 12 ∙ clear .each 12 (omega arith) (omega arith) i h) ∙ ap numbers (s .same)
+
+  -- its reach
+  pub own-is : reachSays (site .own) ≡ reachAt course i
+  unfolding siteAt
+  own-is = ap (λ (x : Site). x .own) (s .same)
 
 -- test 10 passes
-pub flow-site : {number : ℕ} {site : Site} → ClearSite number site → 10 < number → flowFaultOf site ≡ false
+pub flow-site : {number : ℕ} {site : Site} → ClearSite number site → 10 < number → flowFault site ≡ false
 unfolding siteFault
 flow-site c h = c .each 10 (omega arith) h
 
@@ -145,19 +131,18 @@ module _ {sheet : List ℕ} {n i : ℕ} {at : Cursor} (r : Read sheet n) (row : 
     descends-read = descends-at (along r row) h w own-read
 
     -- the segment, from its reach and the one below
-    pub site-read : {below : Code.Reach} (b : ℕ) → b ≡ cond (eqb (i + 1) n) (at .reach) (reachBelow (reachSays own) at) → reachSays below ≡ reachOn sheet b →
-        IsSegment (courseOf sheet row) i (siteOf (dt sheet) (dx sheet) (topOf sheet row) at own below (eqb (i + 1) n))
+    pub site-read : {below : Code.Reach} {site : Held.Site} (b : ℕ) → b ≡ cond (eqb (i + 1) n) (at .reach) (reachBelow (reachSays own) at) → reachSays below ≡ reachOn sheet b →
+        siteSays site ≡ siteOf (dt sheet) (dx sheet) (topOf sheet row) at (reachSays own) (reachSays below) (eqb (i + 1) n) → IsSegment (courseOf sheet row) i site
     unfolding courseOf
-    site-read b e f =
-        is-segment
-        (sited (along r row) h w own-read
-        (f ∙ ap (reachOn sheet) e ∙ reach-at sheet _ (below-at (along r row) h w own-read .known)))
+    site-read b e f is-site =
+        let next = f ∙ ap (reachOn sheet) e ∙ reach-at sheet _ (below-at (along r row) h w own-read .known) in
+        record { same = is-site ∙ site-at (along r row) h w own-read next; fields = rw is-site (fields-at (along r row) h w own-read next) }
 
   -- and goes on from there
-  module _ {site : Site} (s : IsSegment (courseOf sheet row) i site) {step : ℕ} (d : step ≡ dx sheet) where
+  module _ {site : Held.Site} (s : IsSegment (courseOf sheet row) i site) {step : ℕ} (d : step ≡ dx sheet) where
     -- the site's reach is the cursor's
     own-here : reachSays (site .own) ≡ reachNo (reaches sheet) (at .reach)
-    own-here = sym (s .own) ∙ known-here .own
+    own-here = own-is s ∙ known-here .own
 
     pub descends-here : Descends step (reachSays (site .own)) at
     unfolding courseOf
@@ -170,15 +155,15 @@ module _ {sheet : List ℕ} {n i : ℕ} {at : Cursor} (r : Read sheet n) (row : 
 
 -- which test a number names
 module _ (number : ℕ) (site : Site) where
-  pub site-flow : number ≡ 10 → flowFaultOf site ≡ siteFault number site
+  pub site-flow : number ≡ 10 → flowFault site ≡ siteFault number site
   unfolding siteFault
   site-flow e = rw e
 
-  pub site-face : number ≡ 11 → faceFaultOf site ≡ siteFault number site
+  pub site-face : number ≡ 11 → faceFault site ≡ siteFault number site
   unfolding siteFault
   site-face e = rw e
 
-  pub site-sum : (number ≡ 10 → ⊥) → (number ≡ 11 → ⊥) → sumFault (numbersOf site) ≡ siteFault number site
+  pub site-sum : (number ≡ 10 → ⊥) → (number ≡ 11 → ⊥) → sumFault (numbers site) ≡ siteFault number site
   unfolding siteFault
   site-sum p q = rw (ne-eqb _ _ p, ne-eqb _ _ q)
 

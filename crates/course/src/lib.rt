@@ -3,12 +3,14 @@ ghost use mathlib.Core.Path.{_≡_};
 ghost use Prim.Native.Nat.{_<_, _≤_};
 ghost use Rattle.model.specs.Sheet.{dx, reaches, flowRowCount};
 ghost use Rattle.model.specs.Flow.{courseOf};
+ghost use Rattle.model.specs.HalfStep.{siteAt};
 ghost use Rattle.model.specs.Refusals.{segment, testEach};
 ghost use Rattle.model.specs.Load.{testFlows};
 ghost use Rattle.terms.specs.Says.{findingSays};
 ghost use Rattle.lists.specs.Lent.{entry};
 ghost use Rattle.halfstep.specs.Descent.{cursorAt};
-ghost use Rattle.course.specs.Segments.{courseFault, siteFault, Clear, ClearFlows, ClearSite, Read, IsSegment};
+ghost use Rattle.halfstep.specs.Site.{siteSays};
+ghost use Rattle.course.specs.Segments.{siteFault, Clear, ClearFlows, ClearSite, Read, IsSegment};
 use halfstep::Site;
 use halfstep::descent::Cursor;
 use sheet::fields::dt;
@@ -40,8 +42,8 @@ pub fn site(sheet: &[u8], row: u32, at: Cursor, n: usize, i: usize) -> Site
 
 // 10. "A flow is below 0 or above 100,000,000", 11. "Q × dx exceeds AD own + AD below", 12. "T, V or h exceeds one whole".
 fn fault(number: u32, site: Site) -> bool
-    requires { ⌜ ClearSite number site ⌝ }
-    ensures { λ r. ⌜ r ≡ siteFault number site ⌝ }
+    requires { ⌜ ClearSite number (siteSays site) ⌝ }
+    ensures { λ r. ⌜ r ≡ siteFault number (siteSays site) ⌝ }
 {
     if number == 10 {
         return site.flow_fault();
@@ -55,7 +57,7 @@ fn fault(number: u32, site: Site) -> bool
 // Test 10, 11 or 12 over the whole river with the flow of this row: "the lowest at fault".
 fn course_test(sheet: &[u8], row: u32, n: usize, number: u32) -> Finding
     requires { ⌜ Read (now sheet) n × (10 ≤ number) × Clear number n (courseOf (now sheet) row) ⌝ }
-    ensures { λ r. ⌜ findingSays r ≡ testEach number segment n (courseFault number (courseOf (entry sheet) row)) ⌝ }
+    ensures { λ r. ⌜ findingSays r ≡ testEach number segment n (λ i. siteFault number (siteAt (courseOf (entry sheet) row) i)) ⌝ }
 {
     let step = dx(sheet);
     let mut at = Cursor::start(reach(sheet, 0));
@@ -75,7 +77,7 @@ fn course_test(sheet: &[u8], row: u32, n: usize, number: u32) -> Finding
 pub fn flows_test(sheet: &[u8], n: usize, number: u32) -> Finding
     requires { ⌜ Read (now sheet) n × (10 ≤ number) × ClearFlows number n (now sheet) ⌝ }
     ensures { λ r. let s = entry sheet in ⌜ findingSays r ≡ testFlows (flowRowCount s)
-        (λ row. testEach number segment n (courseFault number (courseOf s row))) ⌝ }
+        (λ row. testEach number segment n (λ i. siteFault number (siteAt (courseOf s row) i))) ⌝ }
 {
     let rows = flow_row_count(sheet);
     let mut row: u32 = 0;

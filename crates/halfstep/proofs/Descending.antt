@@ -11,12 +11,12 @@ use lib.IntN.{natAbs}
 use lib.ListN.{length}
 use Rattle.model.specs.Sheet.{Reach, totalSegments, alongRiver}
 use Rattle.model.specs.Flow.{Course, reachAt, ownGain, gain}
-use Rattle.model.specs.HalfStep.{ad, adAbove}
+use Rattle.model.specs.HalfStep.{adAbove}
 use Rattle.halfstep.specs.Ranges.{InRange, Steps}
-use Rattle.halfstep.specs.Descent.{shareOf, reachNo, atTop, reachBelow, further, cursorAt}
+use Rattle.halfstep.specs.Descent.{reachNo, atTop, reachBelow, further, cursorAt}
 use Rattle.halfstep.specs.declared.descent.Cursor.{Cursor}
 use Rattle.halfstep.proofs.River.{before, before-next, before-known, segment-reach}
-use Rattle.halfstep.proofs.Signed.{abs-sum, abs-share}
+use Rattle.halfstep.proofs.Signed.{abs-sum, abs-gain}
 use Rattle.halfstep.proofs.Sites.{ad-le}
 
 -- segment i is number `passed` of reach number `reach`, both from 0
@@ -69,7 +69,7 @@ module _ {n : ℕ} {rs : List Reach} {course : Course} (river : Along n rs cours
 
   -- at every segment
   pub known : (i : ℕ) → i < n → Known rs course i (cursorAt rs (course .dx) i)
-  unfolding cursorAt atTop further reachBelow adAbove ad gain ownGain
+  unfolding cursorAt atTop further reachBelow adAbove gain
   known zero h =
       let top = stands-top {rs = rs} (river .ranges) (omega (arith, river .count)) in
       let own = own-at top in
@@ -86,5 +86,5 @@ module _ {n : ℕ} {rs : List Reach} {course : Course} (river : Along n rs cours
         above = rw (k .own);
         wide = ad-le inside;
         sum = rw (k .own, k .sum);
-        small = omega (arith, k .small, abs-sum (at .gain) (shareOf (own .qin) (own .qout) (course .dx)), abs-share (own .qin) (own .qout) (course .dx) (inside .qin) (inside .qout) (river .steps .length));
+        small = omega (arith, k .small, abs-sum (at .gain) (ownGain own (course .dx)), abs-gain own (course .dx) (inside .qin) (inside .qout) (river .steps .length));
       }

@@ -10,27 +10,21 @@ use borrow.Author.Tests.{eqb-false}
 use lib.Dec.{eqb}
 use lib.ListN.{length}
 use Rattle.model.specs.Sheet as Sheet
-use Rattle.model.specs.Flow.{Course, ownGain, flow}
-use Rattle.model.specs.HalfStep.{ad, isLast, adBelow}
+use Rattle.model.specs.Flow.{Course, reachAt}
+use Rattle.model.specs.HalfStep.{Site, ad, isLast, adBelow, siteAt}
 use Rattle.terms.specs.Says.{reachSays}
 use Rattle.terms.specs.declared.Reach.{Reach}
-use Rattle.halfstep.specs.Descent.{adOf, reachNo, atTop, reachBelow, further, cursorAt, Descends}
-use Rattle.halfstep.specs.Site.{flowOf, siteOf, Fields}
+use Rattle.halfstep.specs.Descent.{reachNo, atTop, reachBelow, further, cursorAt, Descends}
+use Rattle.halfstep.specs.Site.{siteOf, Fields}
 use Rattle.halfstep.specs.declared.descent.Cursor.{Cursor}
-use Rattle.halfstep.specs.declared.Site.{Site}
 use Rattle.halfstep.proofs.River.{river-length, before-ge}
-use Rattle.halfstep.proofs.Sites.{SiteAt, ad-le}
+use Rattle.halfstep.proofs.Sites.{ad-le}
 use Rattle.halfstep.proofs.Descending.{Along, Known, known}
 
 -- reach number k is on the sheet, and its AD is x
 pub record Has (rs : List Sheet.Reach) (k x : ℕ) : Type 0 where
   pub known : k < length rs
-  pub value : adOf (reachNo rs k) ≡ x
-
--- a site is segment i of the course, and its fields are in their ranges
-pub record Sited (course : Course) (i : ℕ) (site : Site) : Type 0 where
-  pub place : SiteAt course i site
-  pub fields : Fields site
+  pub value : ad (reachNo rs k) ≡ x
 
 -- the cursor after i segments, which rests on no flow
 pub record Descended (rs : List Sheet.Reach) (dx i : ℕ) (at : Cursor) : Type 0 where
@@ -74,8 +68,8 @@ module _ {n : ℕ} {rs : List Sheet.Reach} {course : Course} (river : Along n rs
 
       -- the reach below, by whether the segment is the last
       below : (t : Bool) → eqb (i + 1) n ≡ t
-          → Has rs (cond t (at .reach) (reachBelow (reachSays own) at)) (cond t (ad course i) (ad course (suc i)))
-      unfolding ad cursorAt further
+          → Has rs (cond t (at .reach) (reachBelow (reachSays own) at)) (ad (reachAt course (cond t i (suc i))))
+      unfolding cursorAt further
       below true e = record { known = known-at .stands .known; value = rw (known-at .own) }
       below false e =
           let k = known river (suc i) (omega (arith, eqb-false (i + 1) n e)) in
@@ -86,28 +80,22 @@ module _ {n : ℕ} {rs : List Sheet.Reach} {course : Course} (river : Along n rs
       unfolding adBelow
       below-at = rw (← last-at i) (below (eqb (i + 1) n) refl)
 
-      -- the segment where the descent stands
-      pub sited : {next : Reach} → reachSays next ≡ reachNo rs (cond (eqb (i + 1) n) (at .reach) (reachBelow (reachSays own) at))
-          → Sited course i (siteOf (course .dt) (course .dx) (course .top) at own next (eqb (i + 1) n))
-      unfolding siteOf flowOf flow ownGain
-      sited r =
-          let k = known-at in
-          let b = below-at in
-          let here = k .own ∙ sym is in
-          record {
-            place = record {
-              own = here;
-              above = sym (k .above);
-              below = sym (ap adOf r ∙ b .value);
-              stream = rw (k .sum, here);
-              end = sym (last-at i);
-              time = refl;
-              step = refl;
-            };
-            fields = record {
+      -- the segment where the descent stands, and that its fields are in their ranges
+      module _ {next : Reach} (r : reachSays next ≡ reachNo rs (cond (eqb (i + 1) n) (at .reach) (reachBelow (reachSays own) at))) where
+        abbrev here : Site
+        here = siteOf (course .dt) (course .dx) (course .top) at (reachSays own) (reachSays next) (eqb (i + 1) n)
+
+        pub site-at : here ≡ siteAt course i
+        unfolding siteOf siteAt
+        site-at = let k = known-at in rw (k .above, k .sum, is ∙ sym (k .own), ap ad r ∙ below-at .value, last-at i)
+
+        pub fields-at : Fields here
+        unfolding siteOf
+        fields-at =
+            let k = known-at in
+            record {
               ranges = rw is (river .ranges (at .reach) (k .stands .known));
               steps = river .steps;
               above = k .wide;
-              below = rw r (ad-le (river .ranges _ (b .known)));
-            };
-          }
+              below = rw r (ad-le (river .ranges _ (below-at .known)));
+            }

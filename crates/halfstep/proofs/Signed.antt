@@ -13,7 +13,8 @@ use mir.Syntax.{w64}
 use mir.Val.{SFits, toZ, ofZ}
 use mir.ValLaws.{toZ-ofZ}
 use Rattle.rounding.specs.Floor.{floorDiv}
-use Rattle.halfstep.specs.Descent.{shareOf}
+use Rattle.model.specs.Sheet.{Reach}
+use Rattle.model.specs.Flow.{ownGain}
 
 -- a signed number is held as its bits, and read back
 pub back : (z : ℤ) → mag z < 2 ^ 63 → toZ w64 (ofZ w64 z) ≡ z
@@ -83,6 +84,7 @@ abs-floor (pos n) d = div-le-self n d
 abs-floor (negsuc n) d = omega (arith, div-le-self n d)
 
 -- (qin − qout) × dx of a segment with its fields in their ranges
-pub abs-share : (qin qout dx : ℕ) → qin ≤ 100000000 → qout ≤ 100000000 → dx ≤ 10000 → natAbs (shareOf qin qout dx) ≤ 10 ^ 12
-abs-share qin qout dx p q r =
-    omega (arith, abs-product (pos qin -ℤ pos qout) (pos dx), mul-le-mul (abs-diff qin qout 100000000 p q) r)
+pub abs-gain : (own : Reach) (dx : ℕ) → own .qin ≤ 100000000 → own .qout ≤ 100000000 → dx ≤ 10000 → natAbs (ownGain own dx) ≤ 10 ^ 12
+unfolding ownGain
+abs-gain own dx p q r =
+    omega (arith, abs-product (pos (own .qin) -ℤ pos (own .qout)) (pos dx), mul-le-mul (abs-diff (own .qin) (own .qout) 100000000 p q) r)

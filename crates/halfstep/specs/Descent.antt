@@ -4,19 +4,13 @@ use mathlib.Core.Bool.{cond}
 use mathlib.Core.List.{List}
 use Prim.Native.Nat.{ℕ, zero, suc, _+_, _*_, _^_, _<_, _≤_}
 use lib.Dec.{ltb}
-use lib.IntN.{ℤ, pos, natAbs, _+ℤ_, _-ℤ_, _*ℤ_}
+use lib.IntN.{pos, natAbs, _+ℤ_}
 use lib.ListN.{getD}
 use Rattle.model.specs.Sheet.{Reach, reachOf}
+use Rattle.model.specs.Flow.{ownGain}
+use Rattle.model.specs.HalfStep.{ad}
 use Rattle.halfstep.specs.Ranges.{InRange}
 use Rattle.halfstep.specs.declared.descent.Cursor.{Cursor}
-
--- A × D of a segment of this reach
-abbrev pub adOf : Reach → ℕ
-adOf r = r .area * r .dispersion
-
--- (qin − qout) × dx of a segment
-abbrev pub shareOf : (qin qout dx : ℕ) → ℤ
-shareOf qin qout dx = (pos qin -ℤ pos qout) *ℤ pos dx
 
 -- reach number k, from 0; past the last, where nothing is read, a reach of zeros
 abbrev pub reachNo : List Reach → ℕ → Reach
@@ -24,7 +18,7 @@ reachNo reaches k = getD reaches k (reachOf (λ j. 0))
 
 -- the cursor at the top of a river with this first reach
 unfoldable pub atTop : Reach → Cursor
-atTop first = record { reach = 0; passed = 0; above = adOf first; gain = pos 0 }
+atTop first = record { reach = 0; passed = 0; above = ad first; gain = pos 0 }
 
 -- the number of the reach of the segment below, where `own` is the reach of this one
 unfoldable pub reachBelow : Reach → Cursor → ℕ
@@ -35,8 +29,8 @@ unfoldable pub further : (dx : ℕ) → Reach → Cursor → Cursor
 further dx own at = record {
   reach = reachBelow own at;
   passed = cond (ltb (at .passed + 1) (own .segments)) (at .passed + 1) 0;
-  above = adOf own;
-  gain = at .gain +ℤ shareOf (own .qin) (own .qout) dx;
+  above = ad own;
+  gain = at .gain +ℤ ownGain own dx;
 }
 
 -- the cursor at segment i, from 0 at the top

@@ -5,7 +5,9 @@ ghost use Prim.Native.Nat.{_*_, _^_, _<_, _≤_};
 ghost use lib.IntN.{natAbs};
 ghost use Rattle.terms.specs.Says.{reachSays};
 ghost use Rattle.model.specs.Ranges.{flows};
-ghost use Rattle.halfstep.specs.Descent.{adOf, shareOf, atTop, reachBelow, further, Descends};
+ghost use Rattle.model.specs.Flow.{ownGain};
+ghost use Rattle.model.specs.HalfStep.{ad as adOf};
+ghost use Rattle.halfstep.specs.Descent.{atTop, reachBelow, further, Descends};
 use rounding::signed;
 use terms::Reach;
 
@@ -28,12 +30,12 @@ pub fn ad(own: Reach) -> u64
 }
 
 // A segment's own gain, which it adds to the sum of those below it.
-pub fn share(qin: u32, qout: u32, dx: u32) -> i64
-    requires { ⌜ (qin ≤ flows .high) × (qout ≤ flows .high) × (dx ≤ 10000) ⌝ }
-    ensures { λ r. ⌜ (r ≡ shareOf qin qout dx) × (natAbs r ≤ 10 ^ 12) ⌝ }
+pub fn share(own: Reach, dx: u32) -> i64
+    requires { ⌜ (own .qin ≤ flows .high) × (own .qout ≤ flows .high) × (dx ≤ 10000) ⌝ }
+    ensures { λ r. ⌜ (r ≡ ownGain (reachSays own) dx) × (natAbs r ≤ 10 ^ 12) ⌝ }
 {
     signed::times(
-        signed::minus(signed::int(qin), signed::int(qout)),
+        signed::minus(signed::int(own.qin), signed::int(own.qout)),
         signed::int(dx),
     )
 }
@@ -71,7 +73,7 @@ impl Cursor {
         ensures { λ r. ⌜ r ≡ further dx (reachSays own) self ⌝ }
     {
         let above = ad(own);
-        let gain = signed::plus(self.gain, share(own.qin, own.qout, dx));
+        let gain = signed::plus(self.gain, share(own, dx));
         if self.passed + 1 < own.segments {
             return Cursor {
                 reach: self.reach,

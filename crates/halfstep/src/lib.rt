@@ -7,11 +7,12 @@ ghost use lib.IntN.{pos, natAbs};
 ghost use lib.Signed.{ltZ};
 ghost use Rattle.rounding.specs.Nearest.{S, parts};
 ghost use Rattle.model.specs.Ranges.{flows};
-ghost use Rattle.model.specs.Flow.{natural};
-ghost use Rattle.model.specs.HalfStep.{rateOf};
+ghost use Rattle.model.specs.Flow.{flow as flowOf};
+ghost use Rattle.model.specs.HalfStep.{natural, rateOf, rounded, numbers};
+ghost use Rattle.model.specs.Load.{flowFault, faceFault};
 ghost use Rattle.terms.specs.Says.{reachSays, numbersSay};
 ghost use Rattle.halfstep.specs.Descent.{mostGain, Descends};
-ghost use Rattle.halfstep.specs.Site.{flowOf, siteOf, flowFaultOf, faceFaultOf, numbersOf, cut, Fields, Passes, StandFor};
+ghost use Rattle.halfstep.specs.Site.{siteSays, siteOf, cut, Fields, Passes, StandFor};
 use descent::Cursor;
 use rounding::signed;
 use terms::Numbers;
@@ -61,7 +62,7 @@ fn discharge(flow: i64) -> u64
 
 // dt × rate / (2 × 10⁹).
 fn rate(dt: u32, rate: u32) -> u32
-    ensures { λ r. ⌜ r ≡ cut (rateOf dt rate) ⌝ }
+    ensures { λ r. ⌜ r ≡ cut (rounded (rateOf dt rate)) ⌝ }
 {
     rounding::parts(rounding::product(dt, rate), 2000000000)
 }
@@ -104,8 +105,8 @@ fn exchange(dt: u32, alpha: u32, area: u32, area2: u32) -> u32
 // dt × LAMHAT × RHO × Kd / (2 × 10¹⁵), worked out where h is at most one whole: elsewhere the product may be wider than 64 bits, and
 // the segment is refused 12 whatever s is.
 fn sorption(dt: u32, lamhat: u32, rho: u32, kd: u32, h: u32) -> u32
-    requires { ⌜ (rho ≤ 1000000) × (kd ≤ 1000) × (h ≡ cut (rateOf dt lamhat)) ⌝ }
-    ensures { λ r. ⌜ (rateOf dt lamhat ≤ S → r ≡ cut (parts (dt * lamhat * rho * kd) (2 * 10 ^ 15))) ⌝ }
+    requires { ⌜ (rho ≤ 1000000) × (kd ≤ 1000) × (h ≡ cut (rounded (rateOf dt lamhat))) ⌝ }
+    ensures { λ r. ⌜ (rounded (rateOf dt lamhat) ≤ S → r ≡ cut (parts (dt * lamhat * rho * kd) (2 * 10 ^ 15))) ⌝ }
 {
     if rounding::WHOLE < h as u64 {
         return 0;
@@ -120,13 +121,13 @@ impl Site {
     // The segment where a descent stands; `below` is the reach of the segment below, of the last segment its own.
     pub fn new(at: Cursor, own: Reach, below: Reach, last: bool, top: u32, dt: u32, dx: u32) -> Site
         requires { ⌜ Descends dx (reachSays own) at ⌝ }
-        ensures { λ r. ⌜ r ≡ siteOf dt dx top at own below last ⌝ }
+        ensures { λ r. ⌜ siteSays r ≡ siteOf dt dx top at (reachSays own) (reachSays below) last ⌝ }
     {
         Site {
             own: own,
             above: at.above,
             below: descent::ad(below),
-            flow: flow(top, at.gain, descent::share(own.qin, own.qout, dx)),
+            flow: flow(top, at.gain, descent::share(own, dx)),
             last: last,
             dt: dt,
             dx: dx,
@@ -135,7 +136,7 @@ impl Site {
 
     // 10. "A flow is below 0 or above 100,000,000".
     pub fn flow_fault(self) -> bool
-        ensures { λ r. ⌜ r ≡ flowFaultOf self ⌝ }
+        ensures { λ r. ⌜ r ≡ flowFault (siteSays self) ⌝ }
     {
         if signed::below_zero(self.flow) {
             return true;
@@ -145,7 +146,7 @@ impl Site {
 
     // Q × dx.
     fn carried(self) -> u64
-        requires { ⌜ (self .dx ≤ 10 ^ 4) × (flowFaultOf self ≡ false) ⌝ }
+        requires { ⌜ (self .dx ≤ 10 ^ 4) × (flowFault (siteSays self) ≡ false) ⌝ }
         ensures { λ r. ⌜ (r ≡ natural (self .flow) * self .dx) × (r ≤ 10 ^ 12) ⌝ }
     {
         discharge(self.flow) * (self.dx as u64)
@@ -153,8 +154,8 @@ impl Site {
 
     // 11. "Q × dx exceeds AD own + AD below".
     pub fn face_fault(self) -> bool
-        requires { ⌜ Fields self × (flowFaultOf self ≡ false) ⌝ }
-        ensures { λ r. ⌜ r ≡ faceFaultOf self ⌝ }
+        requires { ⌜ Fields (siteSays self) × (flowFault (siteSays self) ≡ false) ⌝ }
+        ensures { λ r. ⌜ r ≡ faceFault (siteSays self) ⌝ }
     {
         let own = self.own;
         descent::ad(own) + self.below < self.carried()
@@ -162,8 +163,8 @@ impl Site {
 
     // dt × (Q × dx + AD above + AD own) / (4 × A × dx²).
     fn e(self) -> u32
-        requires { ⌜ Passes self ⌝ }
-        ensures { λ r. ⌜ r ≡ cut (numbersOf self .e) ⌝ }
+        requires { ⌜ Passes (siteSays self) ⌝ }
+        ensures { λ r. ⌜ r ≡ cut (numbers (siteSays self) .e) ⌝ }
     {
         let own = self.own;
         crossing(
@@ -175,8 +176,8 @@ impl Site {
 
     // dt × (AD own + AD below − Q × dx) / (4 × A × dx²); 0 in the last segment.
     fn g(self) -> u32
-        requires { ⌜ Passes self ⌝ }
-        ensures { λ r. ⌜ r ≡ cut (numbersOf self .g) ⌝ }
+        requires { ⌜ Passes (siteSays self) ⌝ }
+        ensures { λ r. ⌜ r ≡ cut (numbers (siteSays self) .g) ⌝ }
     {
         if self.last {
             return 0;
@@ -191,8 +192,8 @@ impl Site {
 
     // The ten half-step numbers; one part above one whole stands for all that is more.
     pub fn numbers(self) -> Numbers
-        requires { ⌜ Passes self ⌝ }
-        ensures { λ r. ⌜ StandFor (numbersSay r) (numbersOf self) ⌝ }
+        requires { ⌜ Passes (siteSays self) ⌝ }
+        ensures { λ r. ⌜ StandFor (numbersSay r) (numbers (siteSays self)) ⌝ }
     {
         let own = self.own;
         let dt = self.dt;

@@ -9,7 +9,7 @@ use Rattle.lists.proofs.Tab.{length-tab, getD-tab, tab-cong, map-tab}
 use Rattle.lists.proofs.Over.{getD-over}
 use Rattle.model.specs.Sheet.{segmentCount}
 use Rattle.model.specs.Flow.{courseOf, flowInForce, reachAt}
-use Rattle.model.specs.HalfStep.{Segment, numbers, loadedSegment}
+use Rattle.model.specs.HalfStep.{siteAt, numbers, Segment, loadedSegment}
 use Rattle.model.specs.State.{NumberSet, numbersAt, Columns, segmentAt, segmentsOf, pairAt, pairsOf, loadedSegments, writeSegments}
 use Rattle.model.specs.Runs.{Lent, LoadedFor, SetFor, PairAsLoaded, exactStart, sheetPair, sheetPairs}
 
@@ -71,7 +71,7 @@ module _ {sheet : List ℕ} {lent : Lent} where
       pairAt old (lent .columns) i ≡ sheetPair sheet n i
   unfolding pairAt segmentAt loadedSegment
   pair-as-loaded {n} old pair i h =
-      let before = same-entry (numbersAt old) (numbers (courseOf sheet (flowInForce sheet n))) _ _ (pair .after .count) (pair .before) i h in
+      let before = same-entry (numbersAt old) (λ j. numbers (siteAt (courseOf sheet (flowInForce sheet n)) j)) _ _ (pair .after .count) (pair .before) i h in
       let after = segment-as-loaded (pair .after) i h in
       rw (before, ap (λ (x : Segment). x .numbers) after, ap (λ (x : Segment). x .cl) after, ap (λ (x : Segment). x .cb) after)
 

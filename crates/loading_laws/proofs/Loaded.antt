@@ -10,10 +10,12 @@ use lib.ListN.{length}
 use Rattle.lists.specs.Lists.{over, anyShorter}
 use Rattle.lists.proofs.Lowest.{lowest-end}
 use Rattle.lists.proofs.Shorter.{neither, none-shorter, shorter-both}
+use Rattle.rounding.specs.Nearest.{parts}
+use Rattle.rounding.proofs.Laws.{nearest-none}
 use Rattle.model.specs.Ranges.{outside, concentration, mostKd, mostSegments}
 use Rattle.model.specs.Sheet.{reachCount, flowRowCount, segmentCount}
 use Rattle.model.specs.Flow.{Course, courseOf, flowInForce, reachAt}
-use Rattle.model.specs.HalfStep.{isLast, gOf, numbers, Segment, loadedSegment}
+use Rattle.model.specs.HalfStep.{isLast, siteAt, fractions, numbers, Segment, loadedSegment}
 use Rattle.model.specs.State.{Columns, columnLists, State, stateLists, loadedSegments, writeSegments}
 use Rattle.model.specs.Refusals.{segment, accepted, passes, testEach, first}
 use Rattle.model.specs.Load.{sumFault, sheetTests, courseTests, riverTests, listTests, loadTests, Loaded, loaded, loadAnswer, loadColumns}
@@ -30,18 +32,18 @@ use Rattle.loading_laws.proofs.AsLoaded.{written-long, segments-written
 -- ---- what a start looks at
 
 -- the last g is 0
-pub last-g : (course : Course) (n i : ℕ) → length (course .river) ≡ n → (eqb (suc i) n && not (eqb (gOf course i) 0)) ≡ false
-unfolding gOf isLast
-last-g course n i e = rw (← e) (go (eqb (suc i) (length (course .river))) _)
+pub last-g : (course : Course) (n i : ℕ) → length (course .river) ≡ n → (eqb (suc i) n && not (eqb (numbers (siteAt course i) .g) 0)) ≡ false
+unfolding numbers fractions siteAt isLast
+last-g course n i e = rw (← e) (go (eqb (suc i) (length (course .river))) _ _)
   where
-    go : (t : Bool) (g : ℕ) → (t && not (eqb (cond t 0 g) 0)) ≡ false
-    go true g = refl
-    go false g = refl
+    go : (t : Bool) (g d : ℕ) → (t && not (eqb (parts (cond t 0 g) d) 0)) ≡ false
+    go true g d = rw (nearest-none d)
+    go false g d = refl
 
 -- 14, of a segment whose reach is fit and whose numbers passed 12
-pub segment-passes : (course : Course) (n i : ℕ) → length (course .river) ≡ n → sumFault (numbers course i) ≡ false → FitReach (reachAt course i) →
+pub segment-passes : (course : Course) (n i : ℕ) → length (course .river) ≡ n → sumFault (numbers (siteAt course i)) ≡ false → FitReach (reachAt course i) →
     segmentFault (eqb (suc i) n) (loadedSegment course i) ≡ false
-unfolding segmentFault numbersFault loadedSegment numbers
+unfolding segmentFault numbersFault loadedSegment
 segment-passes course n i e sums fit = rw (sums, last-g course n i e, le-ltb mostKd (reachAt course i .kd) (fit .kd), fit .cl, fit .cb, fit .start)
 
 -- ---- the river
@@ -59,14 +61,14 @@ module _ (sheet : List ℕ) (r records : ℕ) (columns : Columns) (front : first
   loads = outcome-passes (loadTests sheet r records columns) (loaded sheet) (first-rest (riverTests sheet) (listTests sheet r records columns) front ∙ lists)
 
   -- the numbers of every segment passed 12
-  pub sums-pass : (i : ℕ) → i < segmentCount sheet → sumFault (numbers (courseOf sheet r) i) ≡ false
+  pub sums-pass : (i : ℕ) → i < segmentCount sheet → sumFault (numbers (siteAt (courseOf sheet r) i)) ≡ false
   unfolding courseTests
   sums-pass =
       let n = segmentCount sheet in
       let passed = first-both (sheetTests sheet) (courseTests n (flowRowCount sheet) (courseOf sheet)) front .1 in
       let flows = all-pass (courseTests n (flowRowCount sheet) (courseOf sheet)) passed .1 .1 .0 in
-      each-clear 12 segment n (λ i. sumFault (numbers (courseOf sheet r) i))
-      (flows-clear (flowRowCount sheet) (λ r. testEach 12 segment n (λ i. sumFault (numbers (courseOf sheet r) i))) flows r known)
+      each-clear 12 segment n (λ i. sumFault (numbers (siteAt (courseOf sheet r) i)))
+      (flows-clear (flowRowCount sheet) (λ r. testEach 12 segment n (λ i. sumFault (numbers (siteAt (courseOf sheet r) i)))) flows r known)
 
   -- the lists that the loading leaves
   abbrev pub leftColumns : Columns

@@ -13,7 +13,7 @@ use lib.Dec.{leb}
 use Rattle.rounding.specs.Nearest.{S}
 use Rattle.model.specs.Sheet.{edition, flowRowCount, flowRowStart}
 use Rattle.model.specs.Flow.{lastBegun, flowInForce, courseOf}
-use Rattle.model.specs.HalfStep.{numbers}
+use Rattle.model.specs.HalfStep.{siteAt, numbers}
 use Rattle.model.specs.Equations.{Figures, Pair, sumT, sumV, channelRight, storageRight, sedimentRight}
 use Rattle.model.specs.Load.{loaded}
 use Rattle.model.specs.Runs.{sheetPair}
@@ -37,7 +37,7 @@ module _ (sheet : List ℕ) (first : edition sheet ≡ 1) where
 
   -- so that a step has the same numbers on both sides
   pub same-numbers : (n i : ℕ) → sheetPair sheet n i .old ≡ sheetPair sheet n i .new
-  same-numbers n i = ap (λ r. numbers (courseOf sheet r) i) (always-top n ∙ sym (always-top (suc n)))
+  same-numbers n i = ap (λ r. numbers (siteAt (courseOf sheet r) i)) (always-top n ∙ sym (always-top (suc n)))
 
 -- ---- the flow in force
 

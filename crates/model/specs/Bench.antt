@@ -6,8 +6,8 @@ use Prim.Native.Nat.{ℕ, zero, suc, _+_, _-_, _/_, _%_, _^_}
 use lib.ListN.{getD, replicate}
 use Rattle.rounding.specs.Nearest.{S, parts}
 use Rattle.model.specs.Sheet.{otr1, reachOf}
-use Rattle.model.specs.Flow.{Course, courseOf, discharge}
-use Rattle.model.specs.HalfStep.{eOf}
+use Rattle.model.specs.Flow.{Course, courseOf}
+use Rattle.model.specs.HalfStep.{siteAt, discharge, numbers}
 use Rattle.model.specs.State.{Columns, State}
 use Rattle.model.specs.Refusals.{Outcome, accepted, refused}
 use Rattle.model.specs.Load.{loadAnswer, loadColumns}
@@ -87,10 +87,10 @@ bench =
     record { number = 2; given = parts 1 (2 ^ 31) ∷ []; printed = 1 ∷ [] } ∷
     record { number = 3; given = parts 0 1 ∷ []; printed = 0 ∷ [] } ∷
     -- document 02, 2: "T4 becomes 69 less and T5 114 less"
-    record { number = 4; given = (1000 - discharge slope 1) ∷ []; printed = 69 ∷ [] } ∷
-    record { number = 5; given = (1000 - discharge slope 2) ∷ []; printed = 114 ∷ [] } ∷
+    record { number = 4; given = (1000 - discharge (siteAt slope 1)) ∷ []; printed = 69 ∷ [] } ∷
+    record { number = 5; given = (1000 - discharge (siteAt slope 2)) ∷ []; printed = 114 ∷ [] } ∷
     -- "e is one whole, accepted"; "refused 12"; "refused 11"; "refused 11"
-    record { number = 6; given = eOf (courseOf (brook 2 1000 1 0) 0) 0 ∷ brookRefusal 2 1000; printed = S ∷ [] } ∷
+    record { number = 6; given = numbers (siteAt (courseOf (brook 2 1000 1 0) 0) 0) .e ∷ brookRefusal 2 1000; printed = S ∷ [] } ∷
     record { number = 7; given = brookRefusal 3 1000; printed = 12 ∷ [] } ∷
     record { number = 8; given = brookRefusal 2 1001; printed = 11 ∷ [] } ∷
     record { number = 9; given = brookRefusal 3 1001; printed = 11 ∷ [] } ∷

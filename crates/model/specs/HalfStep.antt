@@ -2,74 +2,127 @@
 use mathlib.Core.Bool.{Bool, cond}
 use Prim.Native.Nat.{ℕ, zero, suc, _+_, _-_, _*_, _^_}
 use lib.Dec.{eqb}
+use lib.IntN.{ℤ, pos, negsuc}
 use lib.ListN.{length}
 use Rattle.rounding.specs.Nearest.{parts}
-use Rattle.model.specs.Flow.{Course, reachAt, discharge}
+use Rattle.model.specs.Sheet.{Reach}
+use Rattle.model.specs.Flow.{Course, reachAt, ownGain, gain, flow}
 
--- the ten half-step numbers of a segment
-pub record Numbers : Type 0 where
-  pub e : ℕ
-  pub g : ℕ
-  pub l : ℕ
-  pub a : ℕ
-  pub b : ℕ
-  pub k : ℕ
-  pub ks : ℕ
-  pub h : ℕ
-  pub m : ℕ
-  pub s : ℕ
+-- what the half-step numbers of a segment are worked out from: its reach, the AD above and below, its flow, whether it is the river's last,
+-- dt and dx
+pub record Site : Type 0 where
+  pub own : Reach
+  pub above : ℕ
+  pub below : ℕ
+  pub flow : ℤ
+  pub last : Bool
+  pub dt : ℕ
+  pub dx : ℕ
 
 -- "AD is A × D of a segment"
-unfoldable pub ad : Course → ℕ → ℕ
-ad course i = reachAt course i .area * reachAt course i .dispersion
+abbrev pub ad : Reach → ℕ
+ad reach = reach .area * reach .dispersion
+
+-- "above the first and below the last, its own is used"
+unfoldable pub adAbove : Course → ℕ → ℕ
+adAbove course zero = ad (reachAt course zero)
+adAbove course (suc i) = ad (reachAt course i)
 
 -- segment i is the last
 unfoldable pub isLast : Course → ℕ → Bool
 isLast course i = eqb (suc i) (length (course .river))
 
--- "above the first and below the last, its own is used"
-unfoldable pub adAbove : Course → ℕ → ℕ
-adAbove course zero = ad course zero
-adAbove course (suc i) = ad course i
-
 -- "below the last, its own is used"; elsewhere that of the segment below
 unfoldable pub adBelow : Course → ℕ → ℕ
-adBelow course i = cond (isLast course i) (ad course i) (ad course (suc i))
+adBelow course i = ad (reachAt course (cond (isLast course i) i (suc i)))
 
--- "e = dt × (Q × dx + AD above + AD own) / (4 × A × dx²)"
-unfoldable pub eOf : Course → ℕ → ℕ
-eOf course i =
-    parts (course .dt * (discharge course i * course .dx + adAbove course i + ad course i))
-    (4 * reachAt course i .area * (course .dx * course .dx))
+-- segment i of a course
+unfoldable pub siteAt : Course → ℕ → Site
+siteAt course i = record {
+  own = reachAt course i;
+  above = adAbove course i;
+  below = adBelow course i;
+  flow = flow (course .top) (gain course i) (ownGain (reachAt course i) (course .dx));
+  last = isLast course i;
+  dt = course .dt;
+  dx = course .dx;
+}
 
--- "g = dt × (AD own + AD below − Q × dx) / (4 × A × dx²); 0 in the last segment." The difference is below 0 only where 11 refuses.
-unfoldable pub gOf : Course → ℕ → ℕ
-gOf course i =
-    cond (isLast course i) 0
-    (parts (course .dt * (ad course i + adBelow course i - discharge course i * course .dx))
-    (4 * reachAt course i .area * (course .dx * course .dx)))
+-- Q as the formulas read it: a flow below 0 is refused (10) before any of them is used
+abbrev pub natural : ℤ → ℕ
+natural (pos n) = n
+natural (negsuc n) = 0
+
+-- Q of a segment
+abbrev pub discharge : Site → ℕ
+discharge site = natural (site .flow)
+
+-- a fraction of the formulas below; that its denominator is above 0 rests on tests 5 and 6
+pub record Ratio : Type 0 where
+  pub numerator : ℕ
+  pub denominator : ℕ
+
+infix 5 _÷_
+abbrev pub _÷_ : ℕ → ℕ → Ratio
+n ÷ d = record { numerator = n; denominator = d }
+
+-- one A for each of the ten half-step numbers
+pub record Ten (A : Type 0) : Type 0 where
+  pub e : A
+  pub g : A
+  pub l : A
+  pub a : A
+  pub b : A
+  pub k : A
+  pub ks : A
+  pub h : A
+  pub m : A
+  pub s : A
+
+-- f of each
+abbrev pub mapTen : {A B : Type 0} → (A → B) → Ten A → Ten B
+mapTen f x = record { e = f (x .e); g = f (x .g); l = f (x .l); a = f (x .a); b = f (x .b); k = f (x .k); ks = f (x .ks); h = f (x .h); m = f (x .m); s = f (x .s) }
 
 -- "a = dt × ALPHA / (2 × 10⁹)", and "k, ks, h, m as a"
-unfoldable pub rateOf : ℕ → ℕ → ℕ
-rateOf dt rate = parts (dt * rate) (2 * 10 ^ 9)
+abbrev pub rateOf : (dt rate : ℕ) → Ratio
+rateOf dt rate = dt * rate ÷ (2 * 10 ^ 9)
 
--- the ten numbers of segment i
-unfoldable pub numbers : Course → ℕ → Numbers
-numbers course i =
-    let dt = course .dt in
-    let r = reachAt course i in
+-- the ten fractions of a segment
+unfoldable pub fractions : Site → Ten Ratio
+fractions site =
+    let dt = site .dt in
+    let dx = site .dx in
+    let r = site .own in
+    let Q = discharge site in
     record {
-      e = eOf course i;
-      g = gOf course i;
-      l = parts (dt * r .qin) (2 * 10 ^ 5 * r .area);
+      -- "e = dt × (Q × dx + AD above + AD own) / (4 × A × dx²)"
+      e = dt * (Q * dx + site .above + ad r) ÷ (4 * r .area * (dx * dx));
+      -- "g = dt × (AD own + AD below − Q × dx) / (4 × A × dx²); 0 in the last segment." The difference is below 0 only where 11 refuses.
+      g = cond (site .last) 0 (dt * (ad r + site .below - Q * dx)) ÷ (4 * r .area * (dx * dx));
+      -- "l = dt × qin / (2 × 10⁵ × A)"
+      l = dt * r .qin ÷ (2 * 10 ^ 5 * r .area);
       a = rateOf dt (r .alpha);
-      b = parts (dt * r .alpha * r .area) (2 * 10 ^ 9 * r .area2);
+      -- "b = dt × ALPHA × A / (2 × 10⁹ × AS)"
+      b = dt * r .alpha * r .area ÷ (2 * 10 ^ 9 * r .area2);
       k = rateOf dt (r .lambda);
       ks = rateOf dt (r .lambda2);
       h = rateOf dt (r .lamhat);
       m = rateOf dt (r .lamhat2);
-      s = parts (dt * r .lamhat * r .rho * r .kd) (2 * 10 ^ 15);
+      -- "s = dt × LAMHAT × RHO × Kd / (2 × 10¹⁵)"
+      s = dt * r .lamhat * r .rho * r .kd ÷ (2 * 10 ^ 15);
     }
+
+-- "its fraction times one whole, to the nearest"
+abbrev pub rounded : Ratio → ℕ
+rounded f = parts (f .numerator) (f .denominator)
+
+-- the ten numbers
+abbrev pub Numbers : Type 0
+Numbers = Ten ℕ
+
+-- those of a segment
+unfoldable pub numbers : Site → Numbers
+numbers site = mapTen rounded (fractions site)
 
 -- what a loading gives for one segment: "half-step numbers, CL, CB, Kd and start figure"
 pub record Segment : Type 0 where
@@ -83,4 +136,4 @@ pub record Segment : Type 0 where
 unfoldable pub loadedSegment : Course → ℕ → Segment
 loadedSegment course i =
     let r = reachAt course i in
-    record { numbers = numbers course i; cl = r .cl; cb = r .cb; kd = r .kd; start = r .start }
+    record { numbers = numbers (siteAt course i); cl = r .cl; cb = r .cb; kd = r .kd; start = r .start }

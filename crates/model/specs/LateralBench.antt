@@ -4,7 +4,8 @@ use mathlib.Core.List.{List, [], _∷_, _++_, map}
 use Prim.Native.Nat.{ℕ}
 use lib.ListN.{replicate}
 use Rattle.model.specs.Sheet.{otr1}
-use Rattle.model.specs.Flow.{courseOf, discharge}
+use Rattle.model.specs.Flow.{courseOf}
+use Rattle.model.specs.HalfStep.{siteAt, discharge}
 use Rattle.model.specs.Load.{loadColumns}
 use Rattle.model.specs.Bench.{allBytes, zeros, Line}
 use Rattle.model.specs.FlowBench.{loadingOf}
@@ -32,7 +33,7 @@ fedBelow = sheetWith 1000 1000 2 (reachWith 1 0 4545 ++ reachWith 2 30100 0)
 
 -- Q of these segments, counted from 0
 unfoldable pub discharges : List ℕ → (segments : List ℕ) → List ℕ
-discharges sheet segments = map (discharge (courseOf sheet 0)) segments
+discharges sheet segments = map (λ i. discharge (siteAt (courseOf sheet 0) i)) segments
 
 -- the table
 unfoldable pub lateralBench : List Line

@@ -10,8 +10,8 @@ use Rattle.lists.specs.Lists.{tab, over, anyShorter, notRising}
 use Rattle.rounding.specs.Nearest.{S}
 use Rattle.model.specs.Ranges.{_to_, since, Section, outside, anyOutside, headerRanges, reachRanges, concentration, flows, mostSegments}
 use Rattle.model.specs.Sheet.{edition, sections, field, header, stepsM, interval, sectionEnd, reachCountAt, sheetEnd, rowCountAt, gaugeCountAt, flowRowCountAt, reachCount, rowCount, gaugeCount, flowRowCount, Reach, reachFields, reaches, rowStarts, rowConcentrations, gauges, flowRowStarts, flowRowTops, segmentCount}
-use Rattle.model.specs.Flow.{Course, courseOf, flow, discharge}
-use Rattle.model.specs.HalfStep.{Numbers, ad, adBelow, numbers}
+use Rattle.model.specs.Flow.{Course, courseOf}
+use Rattle.model.specs.HalfStep.{Site, ad, siteAt, discharge, Numbers, numbers}
 use Rattle.model.specs.Equations.{sumT, sumV}
 use Rattle.model.specs.State.{Columns, columnLists, loadedSegments, writeSegments}
 use Rattle.model.specs.Refusals.{nothing, reach, segment, row, Outcome, accepted, refused, Finding, passes, fails, test, testEach, first, outcomeOf}
@@ -45,12 +45,12 @@ unfoldable pub flowRowFault : (M : ℕ) → (starts tops : List ℕ) → ℕ →
 flowRowFault M starts tops j = outside (1 to M) (getD starts j 0) || notRising starts j || outside flows (getD tops j 0)
 
 -- 10. "A flow is below 0 or above 100,000,000"
-unfoldable pub flowFault : Course → ℕ → Bool
-flowFault course i = ltZ (flow course i) (pos (flows .low)) || ltZ (pos (flows .high)) (flow course i)
+unfoldable pub flowFault : Site → Bool
+flowFault site = ltZ (site .flow) (pos (flows .low)) || ltZ (pos (flows .high)) (site .flow)
 
 -- 11. "Q × dx exceeds AD own + AD below"
-unfoldable pub faceFault : Course → ℕ → Bool
-faceFault course i = ltb (ad course i + adBelow course i) (discharge course i * course .dx)
+unfoldable pub faceFault : Site → Bool
+faceFault site = ltb (ad (site .own) + site .below) (discharge site * site .dx)
 
 -- 12. "T, V or h exceeds one whole"
 unfoldable pub sumFault : Numbers → Bool
@@ -77,9 +77,9 @@ testFlows rows finding = first (tab 0 (suc rows) finding)
 -- tests 10 to 12, of n segments with the flow at the top and those of the rows; "each .. before the next check"
 unfoldable pub courseTests : (n rows : ℕ) → (ℕ → Course) → List Finding
 courseTests n rows course =
-    testFlows rows (λ r. testEach 10 segment n (flowFault (course r))) ∷
-    testFlows rows (λ r. testEach 11 segment n (faceFault (course r))) ∷
-    testFlows rows (λ r. testEach 12 segment n (λ i. sumFault (numbers (course r) i))) ∷
+    testFlows rows (λ r. testEach 10 segment n (λ i. flowFault (siteAt (course r) i))) ∷
+    testFlows rows (λ r. testEach 11 segment n (λ i. faceFault (siteAt (course r) i))) ∷
+    testFlows rows (λ r. testEach 12 segment n (λ i. sumFault (numbers (siteAt (course r) i)))) ∷
     []
 
 -- tests 1 to 12, of a sheet by itself; "16 .. after 9"

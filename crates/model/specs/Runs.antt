@@ -8,7 +8,7 @@ use Rattle.lists.specs.Lists.{tab}
 use Rattle.fractions.specs.Fractions.{whole}
 use Rattle.model.specs.Sheet.{segmentCount, flowRowCount}
 use Rattle.model.specs.Flow.{courseOf, flowInForce, reachAt}
-use Rattle.model.specs.HalfStep.{numbers, Segment}
+use Rattle.model.specs.HalfStep.{siteAt, numbers, Segment}
 use Rattle.model.specs.Equations.{Pair}
 use Rattle.model.specs.ExactRiver.{ExactFigures, ExactStep}
 use Rattle.model.specs.State.{NumberSet, numbersOf, Columns, segmentsOf, loadedSegments, loadedNumbers, State}
@@ -116,7 +116,7 @@ abbrev pub sheetPair : List ℕ → (n : ℕ) → ℕ → Pair
 sheetPair sheet n i =
     let before = courseOf sheet (flowInForce sheet n) in
     let after = courseOf sheet (flowInForce sheet (suc n)) in
-    record { old = numbers before i; new = numbers after i; cl = reachAt after i .cl; cb = reachAt after i .cb }
+    record { old = numbers (siteAt before i); new = numbers (siteAt after i); cl = reachAt after i .cl; cb = reachAt after i .cb }
 
 -- all segments
 abbrev pub sheetPairs : List ℕ → (n : ℕ) → List Pair

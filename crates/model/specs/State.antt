@@ -5,7 +5,7 @@ use lib.ListN.{getD}
 use Rattle.lists.specs.Lists.{tab, over}
 use Rattle.model.specs.Sheet.{segmentCount}
 use Rattle.model.specs.Flow.{courseOf}
-use Rattle.model.specs.HalfStep.{Numbers, numbers, Segment, loadedSegment}
+use Rattle.model.specs.HalfStep.{siteAt, Numbers, numbers, Segment, loadedSegment}
 use Rattle.model.specs.Equations.{Figures, Pair}
 
 -- a set: the ten lists of half-step numbers, which document 02, 1 calls a flow's set
@@ -106,7 +106,7 @@ loadedSegments sheet r = tab 0 (segmentCount sheet) (loadedSegment (courseOf she
 
 -- the numbers alone: flow r's set
 abbrev pub loadedNumbers : List ℕ → (r : ℕ) → List Numbers
-loadedNumbers sheet r = tab 0 (segmentCount sheet) (numbers (courseOf sheet r))
+loadedNumbers sheet r = tab 0 (segmentCount sheet) (λ i. numbers (siteAt (courseOf sheet r) i))
 
 -- "The state is three lists of 32-bit figures, one per segment, with U and the count of steps done."
 pub record State : Type 0 where

@@ -55,9 +55,11 @@ nearest-ge n d q h k =
 pub nearest-whole : (d q : ℕ) → 0 < d → nearest (d * q) d ≡ q
 nearest-whole d q h = omega (arith, nearest-le (d * q) d q h (omega arith), nearest-ge (d * q) d q h (omega arith))
 
--- nothing divided is nothing
-pub nearest-none : (d : ℕ) → 0 < d → nearest 0 d ≡ 0
-nearest-none d h = omega (arith, nearest-le 0 d 0 h (omega arith))
+-- nothing divided is nothing, also where it is divided by 0
+pub nearest-none : (d : ℕ) → nearest 0 d ≡ 0
+unfolding nearest
+nearest-none zero = refl
+nearest-none (suc d) = omega (arith, nearest-le 0 (suc d) 0 (omega arith) (omega arith))
 
 -- monotony: what is larger rounds to no less
 pub nearest-mono : (m n d : ℕ) → 0 < d → m ≤ n → nearest m d ≤ nearest n d

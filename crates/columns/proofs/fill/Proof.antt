@@ -7,7 +7,7 @@ use Rattle.model.specs.Flow.{courseOf}
 use Rattle.lists.specs.Lent.{plain}
 use Rattle.terms.specs.Lent.{columns}
 use Rattle.halfstep.proofs.Segments.{Descended}
-use Rattle.course.proofs.River.{few, clear-site, passes-site, numbers-are, descended-start, descends-here, descended-here}
+use Rattle.course.proofs.River.{few, clear-site, passes-site, numbers-are, own-is, descended-start, descends-here, descended-here}
 use Rattle.columns.proofs.Writing.{Writing, in-list, writing-start, writing-turn, writing-end, segment-is}
 use Rattle.columns.proofs.fill.Statement.{statement}
 use Rattle.columns.proofs.fill.Tie as tie
@@ -57,7 +57,7 @@ loop-again c =
     let inv = t .before .loop .inv in
     let s = c .before .before .before .site .ensures in (
       descended-here (p .0) _ h (inv .0) s (t .before .before .before .before .dx .ensures) (c .next .ensures),
-      writing-turn (inv .1) (p .2) h (segment-is _ _ (c .before .numbers .result) (c .before .before .before .site .result .own) (numbers-are s (p .1) h (c .before .numbers .ensures)) (s .own)),
+      writing-turn (inv .1) (p .2) h (segment-is _ _ (c .before .numbers .result) (c .before .before .before .site .result .own) (numbers-are s (p .1) h (c .before .numbers .ensures)) (own-is s)),
       omega (arith, h),
     )
 

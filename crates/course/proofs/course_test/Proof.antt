@@ -6,17 +6,18 @@ use borrow.Author.Needs.{needs}
 use Rattle.lists.proofs.Lowest.{Searching, searching-start, searching-miss}
 use Rattle.model.specs.Sheet.{dx, reaches}
 use Rattle.model.specs.Flow.{courseOf}
+use Rattle.model.specs.HalfStep.{siteAt}
 use Rattle.model.specs.Refusals.{segment}
 use Rattle.halfstep.proofs.Segments.{Descended}
 use Rattle.sheet.proofs.Tests.{each-found, each-clear}
-use Rattle.course.specs.Segments.{courseFault}
+use Rattle.course.specs.Segments.{siteFault}
 use Rattle.course.proofs.River.{few, clear-site, site-fault, descended-start, descends-here, descended-here}
 use Rattle.course.proofs.course_test.Statement.{statement}
 use Rattle.course.proofs.course_test.Tie as tie
 
 abbrev Inv-loop : tie.InvT-loop
 Inv-loop sheet row n number step at₀ i₀ at i =
-    Descended (reaches sheet) (dx sheet) i at × Searching (courseFault number (courseOf sheet row)) n i
+    Descended (reaches sheet) (dx sheet) i at × Searching (λ k. siteFault number (siteAt (courseOf sheet row) k)) n i
 
 abbrev μ-loop : tie.MeasureT-loop
 μ-loop sheet row n number step at₀ i₀ at i = n - i
@@ -32,7 +33,9 @@ fault-requires c κs = clear-site (c .site .ensures) (c .before .before .before 
 
 -- what the test of segment i finds
 found : (c : tie.After-fault Inv-loop μ-loop) →
-    courseFault (c .before .before .before .before .before .before .before .before .args .number) (courseOf (c .before .before .before .before .before .before .before .before .args .sheet .now) (c .before .before .before .before .before .before .before .before .args .row)) (c .before .before .before .loop .i) ≡ c .fault .result
+    let l = c .before .before .before in
+    let a = l .before .before .before .before .before .args in
+    siteFault (a .number) (siteAt (courseOf (a .sheet .now) (a .row)) (l .loop .i)) ≡ c .fault .result
 found c = sym (site-fault (c .before .site .ensures) _) ∙ sym (c .fault .ensures)
 
 cast-t12 : tie.Need-cast-t12 Inv-loop μ-loop

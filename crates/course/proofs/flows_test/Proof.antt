@@ -4,10 +4,11 @@ use Prim.Native.Nat.{_+_, _-_, _≤_}
 use native.Mathlib.Omega.{arith}
 use borrow.Author.Needs.{needs}
 use Rattle.model.specs.Flow.{courseOf}
+use Rattle.model.specs.HalfStep.{siteAt}
 use Rattle.model.specs.Sheet.{flowRowCount}
 use Rattle.model.specs.Refusals.{segment, testEach}
 use Rattle.terms.specs.Says.{findingSays}
-use Rattle.course.specs.Segments.{courseFault}
+use Rattle.course.specs.Segments.{siteFault}
 use Rattle.course.proofs.Flows.{InTurn, in-turn-start, flow-passes, flow-fails, flows-pass}
 use Rattle.course.proofs.River.{few-rows}
 use Rattle.course.proofs.flows_test.Statement.{statement}
@@ -15,7 +16,7 @@ use Rattle.course.proofs.flows_test.Tie as tie
 
 abbrev Inv-loop : tie.InvT-loop
 Inv-loop sheet n number rows row₀ row =
-    InTurn (flowRowCount sheet) (λ r. testEach number segment n (courseFault number (courseOf sheet r))) row
+    InTurn (flowRowCount sheet) (λ r. testEach number segment n (λ i. siteFault number (siteAt (courseOf sheet r) i))) row
 
 abbrev μ-loop : tie.MeasureT-loop
 μ-loop sheet n number rows row₀ row = rows + 1 - row

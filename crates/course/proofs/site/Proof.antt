@@ -21,8 +21,8 @@ returns : tie.Need-returns
 returns c =
     let own = c .before .before .before .before .before .before in
     let p = own .before .before .before .pre in
-    rw (c .new .ensures, c .before .dx .ensures, c .before .before .dt .ensures, c .before .before .before .top-of .ensures)
-    (site-read (p .0) _ (p .1) (record { same = p .2 }) (own .reach .ensures) _ (c .before .before .before .before .before .below .ensures) (c .before .before .before .before .reach2 .ensures))
+    site-read (p .0) _ (p .1) (record { same = p .2 }) (own .reach .ensures) _ (c .before .before .before .before .before .below .ensures) (c .before .before .before .before .reach2 .ensures)
+    (rw (c .before .dx .ensures, c .before .before .dt .ensures, c .before .before .before .top-of .ensures) at (c .new .ensures))
 
 pub site-spec : {M : Type 1} → statement M
 site-spec =

@@ -6,7 +6,7 @@ use native.Mathlib.Omega.{arith}
 use lib.Dec.{T}
 use lib.IntN.{ℤ, pos, negsuc, natAbs}
 use lib.Signed.{mag, nonNeg, ltZ}
-use Rattle.model.specs.Flow.{natural}
+use Rattle.model.specs.HalfStep.{natural}
 use Rattle.halfstep.proofs.Signed.{back}
 use Rattle.halfstep.proofs.discharge.Statement.{statement}
 use Rattle.halfstep.proofs.discharge.Tie as tie

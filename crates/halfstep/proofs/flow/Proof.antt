@@ -7,7 +7,7 @@ use lib.IntN.{pos, _+ℤ_, _*ℤ_}
 use mir.Syntax.{w64}
 use mir.Val.{toZ, ofZ}
 use Rattle.rounding.specs.Floor.{floorDiv}
-use Rattle.halfstep.specs.Site.{flowOf}
+use Rattle.model.specs.Flow.{flow}
 use Rattle.halfstep.proofs.Signed.{back-abs, result, fits-abs, abs-sum, abs-twice, abs-twice-and, abs-floor}
 use Rattle.halfstep.proofs.flow.Statement.{statement}
 use Rattle.halfstep.proofs.flow.Tie as tie
@@ -42,7 +42,7 @@ plus-requires-2 c κs =
     (fits-abs _ (omega (arith, abs-sum (pos (args .top)) (floorDiv sum 200000), abs-floor sum 200000, abs-twice-and (args .gain) (args .own))))
 
 returns : tie.Need-returns
-unfolding flowOf
+unfolding flow
 returns c =
     let p = c .plus2 in
     let f = c .before .floor-div in

@@ -1,11 +1,9 @@
 -- `rate` meets its contract. Assumes nothing.
 use borrow.Author.Needs.{needs}
-use Rattle.model.specs.HalfStep.{rateOf}
 use Rattle.halfstep.proofs.rate.Statement.{statement}
 use Rattle.halfstep.proofs.rate.Tie as tie
 
 returns : tie.Need-returns
-unfolding rateOf
 returns c = rw (c .before .product .ensures) at (c .parts .ensures)
 
 pub rate-spec : {M : Type 1} → statement M

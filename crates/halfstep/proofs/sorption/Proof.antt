@@ -6,7 +6,6 @@ use native.Mathlib.Omega.{arith}
 use borrow.Author.Needs.{needs}
 use Rattle.rounding.specs.Nearest.{S, parts}
 use Rattle.rounding.proofs.Laws.{rounds}
-use Rattle.model.specs.HalfStep.{rateOf}
 use Rattle.halfstep.proofs.sorption.Statement.{statement}
 use Rattle.halfstep.proofs.sorption.Tie as tie
 
@@ -16,7 +15,6 @@ at-most-one n d h small q = omega (arith, rounds (n * S) d h, mul-le-mul-left d 
 
 -- dt × LAMHAT × RHO
 product-le : (c : tie.After-product) → c .product .result * c .before .before .args .rho ≤ 2 * 10 ^ 15
-unfolding rateOf
 product-le c =
     let start = c .before .before in
     let n = start .args .dt * start .args .lamhat in

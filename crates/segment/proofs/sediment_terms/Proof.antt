@@ -12,7 +12,7 @@ use Rattle.segment.proofs.sediment_terms.Tie as tie
 returns : tie.Need-returns
 returns c =
     let none : c .before .before .args .x .new .s ≡ 0 = omega (arith, c .if1 .taken) in
-    rw (none, zero-mul _) (sym (nearest-none _ (omega arith)), omega arith)
+    rw (none, zero-mul _) (sym (nearest-none _), omega arith)
 
 nearest-tried-requires : tie.Need-nearest-tried-requires
 nearest-tried-requires c κs =

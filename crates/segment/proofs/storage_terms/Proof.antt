@@ -12,7 +12,7 @@ use Rattle.segment.proofs.storage_terms.Tie as tie
 returns : tie.Need-returns
 returns c =
     let none : c .before .before .args .x .new .a ≡ 0 = omega (arith, c .if1 .taken) in
-    rw (none, zero-mul _) (sym (nearest-none _ (omega arith)), omega arith)
+    rw (none, zero-mul _) (sym (nearest-none _), omega arith)
 
 mul-nearest-tried : tie.Need-mul-nearest-tried
 mul-nearest-tried c = omega (arith, f-bounds (c .before .before .before .before .before .pre .accepted .new))

@@ -1,4 +1,4 @@
--- `rows::last_started` meets its contract. The loop's invariant: `found` is that of the rows passed, and the others decide the rest.
+-- `rows::last_started` meets its contract. The loop's invariant: `found` is that of the last row passed that has begun.
 use Prim.Native.Nat.{_-_}
 use native.Mathlib.Omega.{arith}
 use borrow.Author.Needs.{needs}
@@ -16,7 +16,7 @@ abbrev μ-loop : tie.MeasureT-loop
 loop-again : tie.Need-loop-again Inv-loop μ-loop
 loop-again c =
     rw (c .latest .ensures)
-    (looking-turn (c .before .before .before .before .loop .inv) (c .before .before .before .loop-test .taken) (omega arith))
+    (looking-turn (c .before .before .before .before .loop .inv) (c .before .before .before .loop-test .taken))
 
 returns : tie.Need-returns Inv-loop μ-loop
 returns c = looking-end (c .before .loop .inv) (c .loop-test .left)

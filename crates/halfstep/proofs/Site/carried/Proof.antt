@@ -2,20 +2,20 @@
 use native.Mathlib.Nat.{mul-le-mul}
 use native.Mathlib.Omega.{arith}
 use borrow.Author.Needs.{needs}
-use Rattle.halfstep.specs.Site.{flowFaultOf}
+use Rattle.model.specs.Load.{flowFault}
 use Rattle.halfstep.proofs.Signed.{back}
 use Rattle.halfstep.proofs.Sites.{flow-range}
 use Rattle.halfstep.proofs.Site.carried.Statement.{statement}
 use Rattle.halfstep.proofs.Site.carried.Tie as tie
 
 discharge-requires : tie.Need-discharge-requires
-unfolding flowFaultOf
+unfolding flowFault
 discharge-requires c κs =
     let flow = c .before .args .self .flow in
     rw (back flow (c .struct-told .given .1 .1 .1 .0 .1)) (flow-range flow (c .before .pre .1) .low)
 
 returns : tie.Need-returns
-unfolding flowFaultOf
+unfolding flowFault
 returns c =
     let start = c .before .before .before in
     let flow = start .args .self .flow in

@@ -1,7 +1,7 @@
 -- `Site::e` meets its contract: what crosses the upper face is at most 3 × 10^12. Assumes nothing.
 use native.Mathlib.Omega.{arith}
 use borrow.Author.Needs.{needs}
-use Rattle.halfstep.specs.Site.{numbersOf}
+use Rattle.model.specs.HalfStep.{fractions, numbers}
 use Rattle.halfstep.proofs.Sites.{ad-le}
 use Rattle.halfstep.proofs.Site.e.Statement.{statement}
 use Rattle.halfstep.proofs.Site.e.Tie as tie
@@ -13,7 +13,7 @@ crossing-requires : tie.Need-crossing-requires
 crossing-requires c κs = omega (arith, ad-le (c .before .before .before .before .before .pre .fields .ranges))
 
 returns : tie.Need-returns
-unfolding numbersOf
+unfolding numbers fractions
 returns c =
     rw (c .before .before .before .before .carried .ensures .0, c .before .before .ad .ensures, c .before .face-divisor .ensures .0) at (c .crossing .ensures)
 

@@ -1,7 +1,7 @@
 -- `Site::face_fault` meets its contract. Assumes nothing.
 use native.Mathlib.Omega.{arith}
 use borrow.Author.Needs.{needs}
-use Rattle.halfstep.specs.Site.{faceFaultOf}
+use Rattle.model.specs.Load.{faceFault}
 use Rattle.halfstep.proofs.Sites.{ad-le}
 use Rattle.halfstep.proofs.Site.face_fault.Statement.{statement}
 use Rattle.halfstep.proofs.Site.face_fault.Tie as tie
@@ -10,7 +10,7 @@ add-result : tie.Need-add-result
 add-result c = omega (arith, ad-le (c .before .before .before .pre .0 .ranges))
 
 returns : tie.Need-returns
-unfolding faceFaultOf
+unfolding faceFault
 returns c = rw (c .before .before .ad .ensures, c .carried .ensures .0)
 
 pub face-fault-spec : {M : Type 1} → statement M

@@ -1,19 +1,19 @@
 -- `Site::flow_fault` meets its contract. Assumes nothing.
 use mathlib.Core.Path.{sym, _∙_}
 use borrow.Author.Needs.{needs}
-use Rattle.halfstep.specs.Site.{flowFaultOf}
+use Rattle.model.specs.Load.{flowFault}
 use Rattle.halfstep.proofs.Signed.{back}
 use Rattle.halfstep.proofs.Site.flow_fault.Statement.{statement}
 use Rattle.halfstep.proofs.Site.flow_fault.Tie as tie
 
 returns : tie.Need-returns
-unfolding flowFaultOf
+unfolding flowFault
 returns c =
     let held = back (c .before .before .before .args .self .flow) (c .before .before .struct-told .given .1 .1 .1 .0 .1) in
     rw (sym (rw held at (c .before .below-zero .ensures)) ∙ c .if1 .taken)
 
 returns-2 : tie.Need-returns-2
-unfolding flowFaultOf
+unfolding flowFault
 returns-2 c =
     let held = back (c .before .before .before .before .before .args .self .flow) (c .before .struct-told2 .given .1 .1 .1 .0 .1) in
     rw (sym (rw held at (c .before .before .before .below-zero .ensures)) ∙ c .before .before .if1 .left) (rw held at (c .above-highest .ensures))

@@ -1,14 +1,16 @@
 -- `Site::g` meets its contract: test 11 leaves a difference that is not below 0, and at most 2 × 10^12. Assumes nothing.
 use native.Mathlib.Omega.{arith}
 use borrow.Author.Needs.{needs}
-use Rattle.halfstep.specs.Site.{numbersOf}
+use Rattle.model.specs.HalfStep.{fractions, numbers}
+use Rattle.rounding.proofs.Laws.{nearest-none}
+use Rattle.halfstep.specs.Site.{siteSays}
 use Rattle.halfstep.proofs.Sites.{ad-le, face-range}
 use Rattle.halfstep.proofs.Site.g.Statement.{statement}
 use Rattle.halfstep.proofs.Site.g.Tie as tie
 
 returns : tie.Need-returns
-unfolding numbersOf
-returns c = rw (c .if1 .taken)
+unfolding numbers fractions
+returns c = rw (c .if1 .taken) (rw (nearest-none))
 
 add-crossing : tie.Need-add-crossing
 add-crossing c = omega (arith, ad-le (c .before .before .before .before .pre .fields .ranges))
@@ -16,13 +18,13 @@ add-crossing c = omega (arith, ad-le (c .before .before .before .before .pre .fi
 sub-crossing : tie.Need-sub-crossing
 sub-crossing c =
     let start = c .before .before .before .before .before in
-    omega (arith, face-range (start .args .self) (start .pre .face))
+    omega (arith, face-range (siteSays (start .args .self)) (start .pre .face))
 
 crossing-requires : tie.Need-crossing-requires
 crossing-requires c κs = omega (arith, ad-le (c .before .before .before .before .before .before .pre .fields .ranges))
 
 returns-2 : tie.Need-returns-2
-unfolding numbersOf
+unfolding numbers fractions
 returns-2 c =
     rw (c .before .before .before .before .before .before .if1 .left)
     (rw (c .before .before .carried .ensures .0, c .before .before .before .before .ad .ensures, c .before .face-divisor .ensures .0) at (c .crossing .ensures))

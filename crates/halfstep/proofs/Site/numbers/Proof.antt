@@ -1,12 +1,13 @@
 -- `Site::numbers` meets its contract: each number is cut off one part above one whole (`Cut`). Assumes nothing.
 use borrow.Author.Needs.{needs}
-use Rattle.halfstep.specs.Site.{numbersOf}
+use Rattle.model.specs.HalfStep.{fractions, numbers}
+use Rattle.halfstep.specs.Site.{siteSays}
 use Rattle.halfstep.proofs.Sums.{alike-cut, stand-for}
 use Rattle.halfstep.proofs.Site.numbers.Statement.{statement}
 use Rattle.halfstep.proofs.Site.numbers.Tie as tie
 
 returns : tie.Need-returns
-unfolding numbersOf
+unfolding numbers fractions
 returns c =
     let m = c .before in
     let ks = m .before in
@@ -17,7 +18,7 @@ returns c =
     let g = l .before in
     let e = g .before in
     let h = e .before in
-    stand-for {exact = numbersOf (h .before .before .args .self)}
+    stand-for {exact = numbers (siteSays (h .before .before .args .self))}
     (record {
       e = alike-cut (e .e .ensures);
       g = alike-cut (g .g .ensures);

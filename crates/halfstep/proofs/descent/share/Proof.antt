@@ -1,8 +1,10 @@
--- `share` meets its contract: the difference is within 10^8 either way, the product within 10^12 (`abs-share`). Assumes nothing.
+-- `share` meets its contract: the difference is within 10^8 either way, the product within 10^12 (`abs-gain`). Assumes nothing.
 use mathlib.Core.Path.{refl}
 use native.Mathlib.Omega.{arith}
 use borrow.Author.Needs.{needs}
-use Rattle.halfstep.proofs.Signed.{result, fits-abs, abs-diff, abs-share}
+use Rattle.model.specs.Flow.{ownGain}
+use Rattle.terms.specs.Says.{reachSays}
+use Rattle.halfstep.proofs.Signed.{result, fits-abs, abs-diff, abs-gain}
 use Rattle.halfstep.proofs.descent.share.Statement.{statement}
 use Rattle.halfstep.proofs.descent.share.Tie as tie
 
@@ -12,9 +14,10 @@ minus-requires c κs =
     let o = c .int2 in
     let args = c .before .before .args in
     rw (result (i .ok) (i .ensures), result (o .ok) (o .ensures))
-    (fits-abs _ (omega (arith, abs-diff (args .qin) (args .qout) 100000000 (omega arith) (omega arith))))
+    (fits-abs _ (omega (arith, abs-diff (args .own .qin) (args .own .qout) 100000000 (omega arith) (omega arith))))
 
 times-requires : tie.Need-times-requires
+unfolding ownGain
 times-requires c κs =
     let d = c .int3 in
     let m = c .before .minus in
@@ -22,9 +25,10 @@ times-requires c κs =
     let i = c .before .before .before .int in
     let args = c .before .before .before .before .args in
     rw (result (d .ok) (d .ensures), result (m .ok) (m .ensures), result (o .ok) (o .ensures), result (i .ok) (i .ensures))
-    (fits-abs _ (omega (arith, abs-share (args .qin) (args .qout) (args .dx) (omega arith) (omega arith) (omega arith))))
+    (fits-abs _ (omega (arith, abs-gain (reachSays (args .own)) (args .dx) (omega arith) (omega arith) (omega arith))))
 
 returns : tie.Need-returns
+unfolding ownGain
 returns c =
     let t = c .times in
     let d = c .before .int3 in
@@ -33,7 +37,7 @@ returns c =
     let i = c .before .before .before .before .int in
     let args = c .before .before .before .before .before .args in
     rw (result (t .ok) (t .ensures), result (d .ok) (d .ensures), result (m .ok) (m .ensures), result (o .ok) (o .ensures), result (i .ok) (i .ensures))
-    (refl, abs-share (args .qin) (args .qout) (args .dx) (omega arith) (omega arith) (omega arith))
+    (refl, abs-gain (reachSays (args .own)) (args .dx) (omega arith) (omega arith) (omega arith))
 
 pub share-spec : {M : Type 1} → statement M
 share-spec =

@@ -6,7 +6,9 @@ use borrow.Author.Tests.{lt-ltb, le-ltb}
 use lib.IntN.{_+ℤ_}
 use mir.Syntax.{w64}
 use mir.Val.{toZ, ofZ}
-use Rattle.halfstep.specs.Descent.{reachBelow, further, shareOf}
+use Rattle.model.specs.Flow.{ownGain}
+use Rattle.terms.specs.Says.{reachSays}
+use Rattle.halfstep.specs.Descent.{reachBelow, further}
 use Rattle.halfstep.proofs.Signed.{back, back-abs, result, fits-abs, abs-sum}
 use Rattle.halfstep.proofs.descent.Cursor.next.Statement.{statement}
 use Rattle.halfstep.proofs.descent.Cursor.next.Tie as tie
@@ -20,7 +22,7 @@ plus-requires c κs =
     (fits-abs _ (omega (arith, start .pre, abs-sum gain (s .result), s .ensures .1)))
 
 -- the sum, read back
-gained : (c : tie.After-plus) → let args = c .before .before .before .before .args in toZ w64 (ofZ w64 (c .plus .result)) ≡ args .self .gain +ℤ shareOf (args .own .qin) (args .own .qout) (args .dx)
+gained : (c : tie.After-plus) → let args = c .before .before .before .before .args in toZ w64 (ofZ w64 (c .plus .result)) ≡ args .self .gain +ℤ ownGain (reachSays (args .own)) (args .dx)
 gained c =
     let start = c .before .before .before .before in
     let p = c .plus in
