@@ -19,13 +19,13 @@ siteFault number site =
     (cond (eqb number 11) (faceFault site)
     (sumFault (numbers site)))
 
--- tests 10 to the one before `number` do not
+-- tests 10 to the one before `number` do not, and its fields are in their ranges
 pub record ClearSite (number : ℕ) (site : Site) : Type 0 where
   pub low : 10 ≤ number
   pub fields : Fields site
   pub each : (k : ℕ) → 10 ≤ k → k < number → siteFault k site ≡ false
 
--- nor any other of n
+-- they find none of n segments at fault
 pub record Clear (number n : ℕ) (course : Course) : Type 0 where
   pub each : (k : ℕ) → 10 ≤ k → k < number → (i : ℕ) → i < n → siteFault k (siteAt course i) ≡ false
 

@@ -2,7 +2,7 @@
 use mathlib.Core.Bool.{Bool, true, false, cond}
 use mathlib.Core.List.{List}
 use mathlib.Core.Path.{_≡_, refl}
-use Prim.Native.Nat.{ℕ, zero, suc, _+_, _*_, _^_, _<_, _≤_}
+use Prim.Native.Nat.{ℕ, zero, suc, _+_, _-_, _*_, _^_, _<_, _≤_}
 use native.Mathlib.Numerals.{add-one}
 use native.Mathlib.Omega.{arith}
 use borrow.Author.Tests.{ltb-true, ltb-false}
@@ -11,13 +11,16 @@ use lib.IntN.{natAbs}
 use lib.ListN.{length}
 use Rattle.model.specs.Sheet.{Reach, totalSegments, alongRiver}
 use Rattle.model.specs.Flow.{Course, reachAt, ownGain, gain}
-use Rattle.model.specs.HalfStep.{adAbove}
+use Rattle.model.specs.HalfStep.{ad}
 use Rattle.halfstep.specs.Ranges.{InRange, Steps}
 use Rattle.halfstep.specs.Descent.{reachNo, atTop, reachBelow, further, cursorAt}
 use Rattle.halfstep.specs.declared.descent.Cursor.{Cursor}
 use Rattle.halfstep.proofs.River.{before, before-next, before-known, segment-reach}
 use Rattle.halfstep.proofs.Signed.{abs-sum, abs-gain}
 use Rattle.halfstep.proofs.Sites.{ad-le}
+
+less-one : (i : ℕ) → suc i - 1 ≡ i
+less-one i = omega arith
 
 -- segment i is number `passed` of reach number `reach`, both from 0
 pub record Stands (rs : List Reach) (i reach passed : ℕ) : Type 0 where
@@ -56,7 +59,7 @@ pub record Along (n : ℕ) (rs : List Reach) (course : Course) : Type 0 where
 pub record Known (rs : List Reach) (course : Course) (i : ℕ) (at : Cursor) : Type 0 where
   pub stands : Stands rs i (at .reach) (at .passed)
   pub own : reachAt course i ≡ reachNo rs (at .reach)
-  pub above : at .above ≡ adAbove course i
+  pub above : at .above ≡ ad (reachAt course (i - 1))
   pub wide : at .above ≤ 10 ^ 12
   pub sum : at .gain ≡ gain course i
   pub small : natAbs (at .gain) ≤ i * 10 ^ 12
@@ -69,7 +72,7 @@ module _ {n : ℕ} {rs : List Reach} {course : Course} (river : Along n rs cours
 
   -- at every segment
   pub known : (i : ℕ) → i < n → Known rs course i (cursorAt rs (course .dx) i)
-  unfolding cursorAt atTop further reachBelow adAbove gain
+  unfolding cursorAt atTop further reachBelow gain
   known zero h =
       let top = stands-top {rs = rs} (river .ranges) (omega (arith, river .count)) in
       let own = own-at top in
@@ -83,7 +86,7 @@ module _ {n : ℕ} {rs : List Reach} {course : Course} (river : Along n rs cours
       record {
         stands = next;
         own = own-at next;
-        above = rw (k .own);
+        above = rw (less-one i, k .own);
         wide = ad-le inside;
         sum = rw (k .own, k .sum);
         small = omega (arith, k .small, abs-sum (at .gain) (ownGain own (course .dx)), abs-gain own (course .dx) (inside .qin) (inside .qout) (river .steps .length));

@@ -11,7 +11,7 @@ use lib.Dec.{eqb}
 use lib.ListN.{length}
 use Rattle.model.specs.Sheet as Sheet
 use Rattle.model.specs.Flow.{Course, reachAt}
-use Rattle.model.specs.HalfStep.{Site, ad, isLast, adBelow, siteAt}
+use Rattle.model.specs.HalfStep.{Site, ad, siteAt}
 use Rattle.terms.specs.Says.{reachSays}
 use Rattle.terms.specs.declared.Reach.{Reach}
 use Rattle.halfstep.specs.Descent.{reachNo, atTop, reachBelow, further, cursorAt, Descends}
@@ -37,8 +37,7 @@ descended-top is = record { same = ap atTop is }
 
 module _ {n : ℕ} {rs : List Sheet.Reach} {course : Course} (river : Along n rs course) where
   -- the last segment is the last of all reaches together
-  last-at : (i : ℕ) → eqb (i + 1) n ≡ isLast course i
-  unfolding isLast
+  last-at : (i : ℕ) → eqb (i + 1) n ≡ eqb (suc i) (length (course .river))
   last-at i = rw (river .river, river-length, river .count, add-one)
 
   module _ {i : ℕ} (h : i < n) {at : Cursor} (w : Descended rs (course .dx) i at) where
@@ -76,9 +75,8 @@ module _ {n : ℕ} {rs : List Sheet.Reach} {course : Course} (river : Along n rs
           rw (is, w .same) (record { known = k .stands .known; value = rw (k .own) })
 
       -- the reach of the segment below, of the last segment its own
-      pub below-at : Has rs (cond (eqb (i + 1) n) (at .reach) (reachBelow (reachSays own) at)) (adBelow course i)
-      unfolding adBelow
-      below-at = rw (← last-at i) (below (eqb (i + 1) n) refl)
+      pub below-at : Has rs (cond (eqb (i + 1) n) (at .reach) (reachBelow (reachSays own) at)) (ad (reachAt course (cond (eqb (i + 1) n) i (suc i))))
+      below-at = below (eqb (i + 1) n) refl
 
       -- the segment where the descent stands, and that its fields are in their ranges
       module _ {next : Reach} (r : reachSays next ≡ reachNo rs (cond (eqb (i + 1) n) (at .reach) (reachBelow (reachSays own) at))) where

@@ -1,12 +1,12 @@
 // A descent of the river from the top, segment by segment: which reach a segment is in, the AD above it and the net gain so far.
 ghost use mathlib.Core.Bool.{cond};
 ghost use mathlib.Core.Path.{_≡_};
-ghost use Prim.Native.Nat.{_*_, _^_, _<_, _≤_};
+ghost use Prim.Native.Nat.{_^_, _<_, _≤_};
 ghost use lib.IntN.{natAbs};
 ghost use Rattle.terms.specs.Says.{reachSays};
 ghost use Rattle.model.specs.Ranges.{flows};
 ghost use Rattle.model.specs.Flow.{ownGain};
-ghost use Rattle.model.specs.HalfStep.{ad as adOf};
+ghost use Rattle.model.specs.HalfStep.{ad};
 ghost use Rattle.halfstep.specs.Descent.{atTop, reachBelow, further, Descends};
 use rounding::signed;
 use terms::Reach;
@@ -24,7 +24,7 @@ pub struct Cursor {
 
 // The AD of a segment of this reach.
 pub fn ad(own: Reach) -> u64
-    ensures { λ r. ⌜ r ≡ adOf (reachSays own) ⌝ }
+    ensures { λ r. ⌜ r ≡ ad (reachSays own) ⌝ }
 {
     rounding::product(own.area, own.dispersion)
 }

@@ -7,7 +7,7 @@ ghost use lib.IntN.{pos, natAbs};
 ghost use lib.Signed.{ltZ};
 ghost use Rattle.rounding.specs.Nearest.{S, parts};
 ghost use Rattle.model.specs.Ranges.{flows};
-ghost use Rattle.model.specs.Flow.{flow as flowOf};
+ghost use Rattle.model.specs.Flow.{flow};
 ghost use Rattle.model.specs.HalfStep.{natural, rateOf, rounded, numbers};
 ghost use Rattle.model.specs.Load.{flowFault, faceFault};
 ghost use Rattle.terms.specs.Says.{reachSays, numbersSay};
@@ -39,7 +39,7 @@ const HIGHEST_FLOW: i64 = limits::FLOW.high as i64;
 // the km, and twice as many for twice the sum.
 fn flow(top: u32, gain: i64, own: i64) -> i64
     requires { ⌜ (natAbs gain ≤ mostGain) × (natAbs own ≤ 10 ^ 12) ⌝ }
-    ensures { λ r. ⌜ r ≡ flowOf top gain own ⌝ }
+    ensures { λ r. ⌜ r ≡ flow top gain own ⌝ }
 {
     let twice = signed::plus(signed::times(2, gain), own);
     signed::plus(signed::int(top), signed::floor_div(twice, 200000))

@@ -15,7 +15,7 @@ use Rattle.rounding.proofs.Laws.{nearest-none}
 use Rattle.model.specs.Ranges.{outside, concentration, mostKd, mostSegments}
 use Rattle.model.specs.Sheet.{reachCount, flowRowCount, segmentCount}
 use Rattle.model.specs.Flow.{Course, courseOf, flowInForce, reachAt}
-use Rattle.model.specs.HalfStep.{isLast, siteAt, fractions, numbers, Segment, loadedSegment}
+use Rattle.model.specs.HalfStep.{siteAt, fractions, numbers, Segment, loadedSegment}
 use Rattle.model.specs.State.{Columns, columnLists, State, stateLists, loadedSegments, writeSegments}
 use Rattle.model.specs.Refusals.{segment, accepted, passes, testEach, first}
 use Rattle.model.specs.Load.{sumFault, sheetTests, courseTests, riverTests, listTests, loadTests, Loaded, loaded, loadAnswer, loadColumns}
@@ -33,7 +33,7 @@ use Rattle.loading_laws.proofs.AsLoaded.{written-long, segments-written
 
 -- the last g is 0
 pub last-g : (course : Course) (n i : ℕ) → length (course .river) ≡ n → (eqb (suc i) n && not (eqb (numbers (siteAt course i) .g) 0)) ≡ false
-unfolding numbers fractions siteAt isLast
+unfolding numbers fractions siteAt
 last-g course n i e = rw (← e) (go (eqb (suc i) (length (course .river))) _ _)
   where
     go : (t : Bool) (g d : ℕ) → (t && not (eqb (parts (cond t 0 g) d) 0)) ≡ false

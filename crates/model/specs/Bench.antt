@@ -7,7 +7,7 @@ use lib.ListN.{getD, replicate}
 use Rattle.rounding.specs.Nearest.{S, parts}
 use Rattle.model.specs.Sheet.{otr1, reachOf}
 use Rattle.model.specs.Flow.{Course, courseOf}
-use Rattle.model.specs.HalfStep.{siteAt, discharge, numbers}
+use Rattle.model.specs.HalfStep.{tenOf, siteAt, discharge, numbers}
 use Rattle.model.specs.State.{Columns, State}
 use Rattle.model.specs.Refusals.{Outcome, accepted, refused}
 use Rattle.model.specs.Load.{loadAnswer, loadColumns}
@@ -34,15 +34,7 @@ brook dt Q segments U =
 
 -- lists of n zeros to lend
 unfoldable pub zeros : ℕ → Columns
-zeros n =
-    let x : List ℕ = replicate n 0 in
-    record {
-      numbers = record { e = x; g = x; l = x; a = x; b = x; k = x; ks = x; h = x; m = x; s = x };
-      cl = x;
-      cb = x;
-      kd = x;
-      start = x;
-    }
+zeros n = let x : List ℕ = replicate n 0 in record { numbers = tenOf (λ part. x); cl = x; cb = x; kd = x; start = x }
 
 -- a state of n zeros to lend
 unfoldable pub noState : ℕ → State

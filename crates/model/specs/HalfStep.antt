@@ -1,6 +1,6 @@
 -- Document 01, "Flow and half-step numbers": the ten numbers of a segment, each "its fraction times one whole, to the nearest".
 use mathlib.Core.Bool.{Bool, cond}
-use Prim.Native.Nat.{ℕ, zero, suc, _+_, _-_, _*_, _^_}
+use Prim.Native.Nat.{ℕ, suc, _+_, _-_, _*_, _^_}
 use lib.Dec.{eqb}
 use lib.IntN.{ℤ, pos, negsuc}
 use lib.ListN.{length}
@@ -8,8 +8,7 @@ use Rattle.rounding.specs.Nearest.{parts}
 use Rattle.model.specs.Sheet.{Reach}
 use Rattle.model.specs.Flow.{Course, reachAt, ownGain, gain, flow}
 
--- what the half-step numbers of a segment are worked out from: its reach, the AD above and below, its flow, whether it is the river's last,
--- dt and dx
+-- what the half-step numbers of a segment are worked out from; `above` and `below` are the AD there
 pub record Site : Type 0 where
   pub own : Reach
   pub above : ℕ
@@ -23,30 +22,20 @@ pub record Site : Type 0 where
 abbrev pub ad : Reach → ℕ
 ad reach = reach .area * reach .dispersion
 
--- "above the first and below the last, its own is used"
-unfoldable pub adAbove : Course → ℕ → ℕ
-adAbove course zero = ad (reachAt course zero)
-adAbove course (suc i) = ad (reachAt course i)
-
--- segment i is the last
-unfoldable pub isLast : Course → ℕ → Bool
-isLast course i = eqb (suc i) (length (course .river))
-
--- "below the last, its own is used"; elsewhere that of the segment below
-unfoldable pub adBelow : Course → ℕ → ℕ
-adBelow course i = ad (reachAt course (cond (isLast course i) i (suc i)))
-
--- segment i of a course
+-- segment i of a course; "above the first and below the last, its own is used", where 0 − 1 is 0
 unfoldable pub siteAt : Course → ℕ → Site
-siteAt course i = record {
-  own = reachAt course i;
-  above = adAbove course i;
-  below = adBelow course i;
-  flow = flow (course .top) (gain course i) (ownGain (reachAt course i) (course .dx));
-  last = isLast course i;
-  dt = course .dt;
-  dx = course .dx;
-}
+siteAt course i =
+    let own = reachAt course i in
+    let last = eqb (suc i) (length (course .river)) in
+    record {
+      own = own;
+      above = ad (reachAt course (i - 1));
+      below = ad (reachAt course (cond last i (suc i)));
+      flow = flow (course .top) (gain course i) (ownGain own (course .dx));
+      last = last;
+      dt = course .dt;
+      dx = course .dx;
+    }
 
 -- Q as the formulas read it: a flow below 0 is refused (10) before any of them is used
 abbrev pub natural : ℤ → ℕ
@@ -79,11 +68,26 @@ pub record Ten (A : Type 0) : Type 0 where
   pub m : A
   pub s : A
 
+-- ten by one rule: `part` takes the number at hand out of any ten
+abbrev pub tenOf : {B : Type 0} → ((part : (A : Type 0) → Ten A → A) → B) → Ten B
+tenOf rule = record {
+  e = rule (λ A x. x .e);
+  g = rule (λ A x. x .g);
+  l = rule (λ A x. x .l);
+  a = rule (λ A x. x .a);
+  b = rule (λ A x. x .b);
+  k = rule (λ A x. x .k);
+  ks = rule (λ A x. x .ks);
+  h = rule (λ A x. x .h);
+  m = rule (λ A x. x .m);
+  s = rule (λ A x. x .s);
+}
+
 -- f of each
 abbrev pub mapTen : {A B : Type 0} → (A → B) → Ten A → Ten B
-mapTen f x = record { e = f (x .e); g = f (x .g); l = f (x .l); a = f (x .a); b = f (x .b); k = f (x .k); ks = f (x .ks); h = f (x .h); m = f (x .m); s = f (x .s) }
+mapTen f x = tenOf (λ part. f (part _ x))
 
--- "a = dt × ALPHA / (2 × 10⁹)", and "k, ks, h, m as a"
+-- "a = dt × ALPHA / (2 × 10⁹)"
 abbrev pub rateOf : (dt rate : ℕ) → Ratio
 rateOf dt rate = dt * rate ÷ (2 * 10 ^ 9)
 
@@ -104,6 +108,7 @@ fractions site =
       a = rateOf dt (r .alpha);
       -- "b = dt × ALPHA × A / (2 × 10⁹ × AS)"
       b = dt * r .alpha * r .area ÷ (2 * 10 ^ 9 * r .area2);
+      -- "k, ks, h, m as a, from LAMBDA, LAMBDA2, LAMHAT, LAMHAT2"
       k = rateOf dt (r .lambda);
       ks = rateOf dt (r .lambda2);
       h = rateOf dt (r .lamhat);

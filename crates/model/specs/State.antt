@@ -5,41 +5,20 @@ use lib.ListN.{getD}
 use Rattle.lists.specs.Lists.{tab, over}
 use Rattle.model.specs.Sheet.{segmentCount}
 use Rattle.model.specs.Flow.{courseOf}
-use Rattle.model.specs.HalfStep.{siteAt, Numbers, numbers, Segment, loadedSegment}
+use Rattle.model.specs.HalfStep.{Ten, tenOf, mapTen, siteAt, Numbers, numbers, Segment, loadedSegment}
 use Rattle.model.specs.Equations.{Figures, Pair}
 
 -- a set: the ten lists of half-step numbers, which document 02, 1 calls a flow's set
-pub record NumberSet : Type 0 where
-  pub e : List ℕ
-  pub g : List ℕ
-  pub l : List ℕ
-  pub a : List ℕ
-  pub b : List ℕ
-  pub k : List ℕ
-  pub ks : List ℕ
-  pub h : List ℕ
-  pub m : List ℕ
-  pub s : List ℕ
+abbrev pub NumberSet : Type 0
+NumberSet = Ten (List ℕ)
 
 -- its ten lists, for the test of their lengths
 abbrev pub setLists : NumberSet → List (List ℕ)
-setLists x =
-    x .e ∷ x .g ∷ x .l ∷ x .a ∷ x .b ∷ x .k ∷ x .ks ∷ x .h ∷ x .m ∷ x .s ∷ []
+setLists x = x .e ∷ x .g ∷ x .l ∷ x .a ∷ x .b ∷ x .k ∷ x .ks ∷ x .h ∷ x .m ∷ x .s ∷ []
 
 -- entry i of each list
 unfoldable pub numbersAt : NumberSet → ℕ → Numbers
-numbersAt x i = record {
-  e = getD (x .e) i 0;
-  g = getD (x .g) i 0;
-  l = getD (x .l) i 0;
-  a = getD (x .a) i 0;
-  b = getD (x .b) i 0;
-  k = getD (x .k) i 0;
-  ks = getD (x .ks) i 0;
-  h = getD (x .h) i 0;
-  m = getD (x .m) i 0;
-  s = getD (x .s) i 0;
-}
+numbersAt x i = mapTen (λ list. getD list i 0) x
 
 -- the first n entries, a record for each segment
 abbrev pub numbersOf : ℕ → NumberSet → List Numbers
@@ -82,18 +61,7 @@ pairsOf n old new = tab 0 n (pairAt old new)
 -- the lists with these segments over their first entries
 unfoldable pub writeSegments : List Segment → Columns → Columns
 writeSegments segments before = record {
-  numbers = record {
-    e = over (map (λ x. x .numbers .e) segments) (before .numbers .e);
-    g = over (map (λ x. x .numbers .g) segments) (before .numbers .g);
-    l = over (map (λ x. x .numbers .l) segments) (before .numbers .l);
-    a = over (map (λ x. x .numbers .a) segments) (before .numbers .a);
-    b = over (map (λ x. x .numbers .b) segments) (before .numbers .b);
-    k = over (map (λ x. x .numbers .k) segments) (before .numbers .k);
-    ks = over (map (λ x. x .numbers .ks) segments) (before .numbers .ks);
-    h = over (map (λ x. x .numbers .h) segments) (before .numbers .h);
-    m = over (map (λ x. x .numbers .m) segments) (before .numbers .m);
-    s = over (map (λ x. x .numbers .s) segments) (before .numbers .s);
-  };
+  numbers = tenOf (λ part. over (map (λ x. part _ (x .numbers)) segments) (part _ (before .numbers)));
   cl = over (map (λ x. x .cl) segments) (before .cl);
   cb = over (map (λ x. x .cb) segments) (before .cb);
   kd = over (map (λ x. x .kd) segments) (before .kd);

@@ -10,7 +10,7 @@ use Rattle.model.specs.Flow.{lastBegun}
 use Rattle.model.specs.Refusals.{row, Outcome, Finding, test, testEach, outcomeOf}
 use Rattle.model.specs.Load.{rowFault}
 
--- "U at step j is that of the last row starting at or before j"; the first row starts at 0, so that there is one, and 0 stands for none
+-- "U at step j is that of the last row .."; the first row starts at 0, so that there is one, and the 0 in front stands for none
 unfoldable pub upstreamAt : (j : ℕ) → (starts concentrations : List ℕ) → ℕ
 upstreamAt j starts concentrations = getD (0 ∷ concentrations) (lastBegun j (λ i. getD starts i 0) (length starts)) 0
 

@@ -1,6 +1,5 @@
 -- `rows::last_started` meets its contract. The loop's invariant: `found` is that of the last row passed that has begun.
 use Prim.Native.Nat.{_-_}
-use native.Mathlib.Omega.{arith}
 use borrow.Author.Needs.{needs}
 use lib.ListN.{length}
 use Rattle.boundary.proofs.RowLaws.{Looking, looking-start, looking-turn, looking-end}
