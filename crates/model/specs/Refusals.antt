@@ -38,7 +38,7 @@ test number fault = cond fault (fails number nothing) passes
 
 -- "the lowest at fault" of n: a test "over the whole river", or over all reaches, rows or gauges
 abbrev pub testEach : ℕ → (ℕ → Place) → (n : ℕ) → (ℕ → Bool) → Finding
-testEach number place n fault = cond (ltb (lowest n fault) n) (fails number (place (suc (lowest n fault)))) passes
+testEach number place n fault = let i = lowest n fault in cond (ltb i n) (fails number (place (suc i))) passes
 
 -- "Tests run in the order of their numbers, each over the whole river before the next", and 16 after 9: of a list of tests the first that
 -- fails decides
