@@ -86,14 +86,14 @@ module _ (sheet : List ℕ) where
     before-10 e = (record { passed = e; count = q }, clear-start)
 
     pub before-11 : first (take 10 (riverTests sheet)) ≡ passes → Read sheet n × ClearFlows 11 n sheet
-    unfolding sheetTests courseTests courseFault
+    unfolding sheetTests courseTests siteFault
     before-11 e =
         let both = first-both (sheetTests sheet) (take 1 (later sheet (segmentCount sheet))) e in
         let all = all-pass (take 1 (later sheet (segmentCount sheet))) (both .1) in
         (record { passed = both .0; count = q }, rw q (clear-next clear-start (all .0)))
 
     pub before-12 : first (take 11 (riverTests sheet)) ≡ passes → Read sheet n × ClearFlows 12 n sheet
-    unfolding sheetTests courseTests courseFault
+    unfolding sheetTests courseTests siteFault
     before-12 e =
         let both = first-both (sheetTests sheet) (take 2 (later sheet (segmentCount sheet))) e in
         let all = all-pass (take 2 (later sheet (segmentCount sheet))) (both .1) in

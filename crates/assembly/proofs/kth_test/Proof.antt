@@ -6,7 +6,7 @@ use borrow.Author.Needs.{needs}
 use lib.ListN.{List·getD-eq-default}
 use Rattle.model.specs.Refusals.{passes}
 use Rattle.model.specs.Load.{sheetTests, courseTests, riverTests}
-use Rattle.course.specs.Segments.{courseFault}
+use Rattle.course.specs.Segments.{siteFault}
 use Rattle.assembly.proofs.LoadTests.{before-10, before-11, before-12}
 use Rattle.assembly.proofs.kth_test.Statement.{statement}
 use Rattle.assembly.proofs.kth_test.Tie as tie
@@ -48,15 +48,15 @@ unfolding sheetTests
 returns-9 c = rw (c .before .before .match .keys9) (rw (c .before .steps2 .ensures) at (c .entries-test3 .ensures))
 
 returns-10 : tie.Need-returns-10
-unfolding sheetTests courseTests courseFault
+unfolding sheetTests courseTests siteFault
 returns-10 c = rw (c .before .before .match .keys10) (rw (c .before .segment-count3 .ensures) at (c .flows-test .ensures))
 
 returns-11 : tie.Need-returns-11
-unfolding sheetTests courseTests courseFault
+unfolding sheetTests courseTests siteFault
 returns-11 c = rw (c .before .before .match .keys11) (rw (c .before .segment-count4 .ensures) at (c .flows-test2 .ensures))
 
 returns-12 : tie.Need-returns-12
-unfolding sheetTests courseTests courseFault
+unfolding sheetTests courseTests siteFault
 returns-12 c = rw (c .before .before .match .keys12) (rw (c .before .segment-count5 .ensures) at (c .flows-test3 .ensures))
 
 -- what is at least n and not n is above n
