@@ -56,13 +56,10 @@ class Claim(NamedTuple):
     name: str
 
 
-FIGURES = {Claim("SearchClaim", "Left")}        # a record of figures, and no statement
-
-
 def stated_claims(files: Files) -> set[Claim]:
     """The statements without parameters in the definitions of the claims."""
     return {Claim(file[len(SPECS):-len(".antt")], name) for file, text in files.items() if file.startswith(SPECS)
-            for name in re.findall(r"^(?:abbrev pub|pub record) (\w+) : Type 0(?: where)?$", text, re.M)} - FIGURES
+            for name in re.findall(r"^(?:abbrev pub|pub record) (\w+) : Type 0(?: where)?$", text, re.M)}
 
 
 def known_claims(function: Function, files: Files) -> set[Claim]:

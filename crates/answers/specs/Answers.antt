@@ -5,6 +5,7 @@ use mathlib.Core.Option.{Option, none, some}
 use Prim.Native.Nat.{ℕ}
 use Rattle.model.specs.Refusals.{Place, nothing, reach, segment, row, Outcome, accepted, refused, Finding, passes, fails}
 use Rattle.model.specs.Load.{Loaded}
+use Rattle.model.specs.Calls.{Left, Reported, Result}
 use Rattle.otis.specs.Outcomes.{handed}
 
 -- "its place, which is a reach, a segment, a row or nothing": its kind, 0 for nothing
@@ -40,6 +41,18 @@ pub record Told (finding : Finding) (number′ kind′ place′ : ℕ) : Type 0 
 abbrev pub foundBy : {A : Type 0} → Outcome A → Finding
 foundBy (accepted v) = passes
 foundBy (refused number place) = fails number place
+
+-- what a start or a step hands out and leaves: the three numbers of its answer, and the state or the pool, the highest figures and the working lists
+pub record Handed {S A : Type 0} (outcome : Result S A) (number kind place : ℕ) (after : Left S) : Type 0 where
+  pub told : Told (foundBy (outcome .answer)) number kind place
+  pub left : after ≡ outcome .left
+
+-- what a report hands out: C, Z and Kd × W, where c, z and kdw were
+pub record ReportHanded (answer : Outcome Reported) (number kind place c z kdw c′ z′ kdw′ : ℕ) : Type 0 where
+  pub told : Told (foundBy answer) number kind place
+  pub channel : c′ ≡ handed answer (λ v. v .channel) c
+  pub storage : z′ ≡ handed answer (λ v. v .storage) z
+  pub sediment : kdw′ ≡ handed answer (λ v. v .sediment) kdw
 
 -- the nine values of a loading: the seven in document 01's order, then where the flow rows begin and how many there are
 abbrev pub loadedValues : Loaded → List ℕ

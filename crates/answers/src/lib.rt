@@ -7,7 +7,7 @@ ghost use Rattle.boundary.specs.Says.{upstreamSays};
 ghost use Rattle.otis.specs.Says.{answerSays, reportSays};
 ghost use Rattle.otis.specs.Outcomes.{handed};
 ghost use Rattle.search.specs.Says.{searchSays};
-ghost use Rattle.answers.specs.Answers.{kindNumber, placeNumber, foundBy, Told, loadedValues, segmentNumber};
+ghost use Rattle.answers.specs.Answers.{kindNumber, placeNumber, foundBy, Told, ReportHanded, loadedValues, segmentNumber};
 use assembly::Load;
 use boundary::Upstream;
 use otis::Answer;
@@ -112,10 +112,7 @@ pub fn put_report(
     z: &mut u32,
     kdw: &mut u64,
 )
-    ensures told { λ _. ⌜ Told (foundBy (reportSays answer)) (exit number) (exit kind) (exit place) ⌝ }
-    ensures c { λ _. ⌜ exit c ≡ handed (reportSays answer) (λ v. v .channel) (entry c) ⌝ }
-    ensures z { λ _. ⌜ exit z ≡ handed (reportSays answer) (λ v. v .storage) (entry z) ⌝ }
-    ensures kdw { λ _. ⌜ exit kdw ≡ handed (reportSays answer) (λ v. v .sediment) (entry kdw) ⌝ }
+    ensures { λ _. ⌜ ReportHanded (reportSays answer) (exit number) (exit kind) (exit place) (entry c) (entry z) (entry kdw) (exit c) (exit z) (exit kdw) ⌝ }
 {
     match answer {
         Report::Reported(figures) => {

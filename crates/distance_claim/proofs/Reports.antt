@@ -7,22 +7,20 @@ use Rattle.lists.proofs.Shorter.{neither}
 use Rattle.model.specs.Ranges.{_to_, outside}
 use Rattle.model.specs.Sheet.{segmentCount}
 use Rattle.model.specs.HalfStep.{Segment}
-use Rattle.model.specs.State.{columnLists, State, stateLists, figuresAt}
+use Rattle.model.specs.State.{Columns, columnLists, State, stateLists, figuresAt}
 use Rattle.model.specs.Refusals.{accepted}
-use Rattle.model.specs.Calls.{riverFault, Reported, reported, reportTests, reportAnswer}
-use Rattle.model.specs.Runs.{Lent, AsLoaded}
+use Rattle.model.specs.Calls.{riverFault, Reported, reported, reportTests, report, result}
+use Rattle.model.specs.Runs.{AsLoaded}
 use Rattle.model.specs.Claim.{FiguresOf}
 use Rattle.model.proofs.Ranges.{inside}
 use Rattle.model.proofs.Refusals.{all-pass, test-clear, accepted-passes, accepted-values}
 use Rattle.loading_laws.proofs.AsLoaded.{segment-as-loaded, same-kd}
 
-pub report-figures : {sheet : List ℕ} {lent : Lent} (state : State) (number : ℕ) (v : Reported) → AsLoaded sheet lent →
-    reportAnswer (lent .count) (lent .columns) state number ≡ accepted v → FiguresOf sheet state number v
-unfolding reportAnswer reportTests reported
-report-figures {sheet = sheet} {lent = lent} state number v loaded e =
+pub report-figures : {sheet : List ℕ} {n : ℕ} {columns : Columns} (state : State) (number : ℕ) (v : Reported) → AsLoaded sheet n columns →
+    result n state (report columns number) .answer ≡ accepted v → FiguresOf sheet state number v
+unfolding result reportTests reported
+report-figures {sheet} {n} {columns} state number v loaded e =
     let lists = loaded .lists in
-    let n = lent .count in
-    let columns = lent .columns in
     let tests = reportTests n columns state number in
     let values : reported columns state (number - 1) ≡ v = accepted-values tests (reported columns state (number - 1)) v e in
     let passed = accepted-passes tests (reported columns state (number - 1)) (rw e tt) in

@@ -11,7 +11,7 @@ use Rattle.model.specs.Sheet.{segmentCount}
 use Rattle.model.specs.Flow.{courseOf, flowInForce, reachAt}
 use Rattle.model.specs.HalfStep.{siteAt, numbers, Segment, loadedSegment}
 use Rattle.model.specs.State.{NumberSet, numbersAt, Columns, segmentAt, segmentsOf, pairAt, pairsOf, loadedSegments, writeSegments}
-use Rattle.model.specs.Runs.{Lent, LoadedFor, SetFor, PairAsLoaded, exactStart, sheetPair, sheetPairs}
+use Rattle.model.specs.Runs.{LoadedFor, SetFor, PairAsLoaded, exactStart, sheetPair, sheetPairs}
 
 -- ---- written
 
@@ -54,32 +54,32 @@ module _ (f : ℕ → Segment) (n : ℕ) where
 pub same-entry : {A : Type 0} (f g : ℕ → A) (n m : ℕ) → n ≡ m → tab 0 n f ≡ tab 0 m g → (i : ℕ) → i < m → f i ≡ g i
 same-entry f g n m count e i h = sym (getD-tab f n i (f i) (rw count h)) ∙ ap (λ xs. getD xs i (f i)) e ∙ getD-tab g m i (f i) h
 
-module _ {sheet : List ℕ} {lent : Lent} where
-  pub segment-as-loaded : {r : ℕ} → LoadedFor sheet r lent → (i : ℕ) → i < segmentCount sheet →
-      segmentAt (lent .columns) i ≡ loadedSegment (courseOf sheet r) i
+module _ {sheet : List ℕ} {n : ℕ} {columns : Columns} where
+  pub segment-as-loaded : {r : ℕ} → LoadedFor sheet r n columns → (i : ℕ) → i < segmentCount sheet →
+      segmentAt columns i ≡ loadedSegment (courseOf sheet r) i
   segment-as-loaded lists i h = same-entry _ _ _ _ (lists .count) (lists .segments) i h
 
   -- the numbers alone
-  pub set-as-loaded : {r : ℕ} → LoadedFor sheet r lent → SetFor sheet r (lent .count) (lent .columns .numbers)
+  pub set-as-loaded : {r : ℕ} → LoadedFor sheet r n columns → SetFor sheet r n (columns .numbers)
   unfolding segmentAt loadedSegment
   set-as-loaded {r} lists =
-      sym (map-tab (λ x. x .numbers) (segmentAt (lent .columns)) 0 (lent .count))
+      sym (map-tab (λ x. x .numbers) (segmentAt columns) 0 n)
       ∙ ap (map (λ (x : Segment). x .numbers)) (lists .segments)
       ∙ map-tab (λ x. x .numbers) (loadedSegment (courseOf sheet r)) 0 (segmentCount sheet)
 
-  pub pair-as-loaded : {n : ℕ} (old : NumberSet) → PairAsLoaded sheet n old lent → (i : ℕ) → i < segmentCount sheet →
-      pairAt old (lent .columns) i ≡ sheetPair sheet n i
+  pub pair-as-loaded : {steps : ℕ} (old : NumberSet) → PairAsLoaded sheet steps n old columns → (i : ℕ) → i < segmentCount sheet →
+      pairAt old columns i ≡ sheetPair sheet steps i
   unfolding pairAt segmentAt loadedSegment
-  pair-as-loaded {n} old pair i h =
-      let before = same-entry (numbersAt old) (λ j. numbers (siteAt (courseOf sheet (flowInForce sheet n)) j)) _ _ (pair .after .count) (pair .before) i h in
+  pair-as-loaded {steps} old pair i h =
+      let before = same-entry (numbersAt old) (λ j. numbers (siteAt (courseOf sheet (flowInForce sheet steps)) j)) _ _ (pair .after .count) (pair .before) i h in
       let after = segment-as-loaded (pair .after) i h in
       rw (before, ap (λ (x : Segment). x .numbers) after, ap (λ (x : Segment). x .cl) after, ap (λ (x : Segment). x .cb) after)
 
   -- the pair that a step is lent is the one that the exact river takes
-  pub pairs-as-loaded : {n : ℕ} (old : NumberSet) → PairAsLoaded sheet n old lent → pairsOf (lent .count) old (lent .columns) ≡ sheetPairs sheet n
-  pairs-as-loaded {n} old pair =
+  pub pairs-as-loaded : {steps : ℕ} (old : NumberSet) → PairAsLoaded sheet steps n old columns → pairsOf n old columns ≡ sheetPairs sheet steps
+  pairs-as-loaded {steps} old pair =
       rw (pair .after .count)
-      (tab-cong (pairAt old (lent .columns)) (sheetPair sheet n) 0 (segmentCount sheet) (λ i a b. pair-as-loaded old pair i (omega arith)))
+      (tab-cong (pairAt old columns) (sheetPair sheet steps) 0 (segmentCount sheet) (λ i a b. pair-as-loaded old pair i (omega arith)))
 
 -- Kd and the start figure rest on the reach alone
 module _ (sheet : List ℕ) (r : ℕ) where

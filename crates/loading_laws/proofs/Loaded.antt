@@ -21,9 +21,8 @@ use Rattle.model.specs.Refusals.{segment, accepted, passes, testEach, first}
 use Rattle.model.specs.Load.{sumFault, sheetTests, courseTests, riverTests, listTests, loadTests, Loaded, loaded, loadAnswer, loadColumns}
 use Rattle.model.specs.Highest.{blocksFault}
 use Rattle.model.specs.Calls.{riverFault, numbersFault, segmentFault, startFault, startTests}
-use Rattle.model.specs.Runs.{LoadedFor, PairAsLoaded}
+use Rattle.model.specs.Runs.{OwnLists, LoadedFor, PairAsLoaded}
 use Rattle.model.specs.Claim.{LeftFor, LoadedLists}
-use Rattle.model.specs.PoolClaim.{OwnLists}
 use Rattle.model.proofs.FlowRows.{in-force-known}
 use Rattle.model.proofs.Refusals.{all-pass, first-rest, first-both, flows-clear, test-clear, each-clear, each-passes, outcome-passes, accepted-passes, accepted-values}
 use Rattle.loading_laws.proofs.Sheets.{FitReach, right, river-length}
@@ -75,7 +74,7 @@ module _ (sheet : List ℕ) (r records : ℕ) (columns : Columns) (front : first
   leftColumns = writeSegments (loadedSegments sheet r) columns
 
   -- they hold the sheet's segments for flow r
-  pub left-loaded : LoadedFor sheet r (record { count = segmentCount sheet; columns = leftColumns })
+  pub left-loaded : LoadedFor sheet r (segmentCount sheet) leftColumns
   left-loaded = record { count = refl; segments = segments-written (loadedSegment (courseOf sheet r)) (segmentCount sheet) columns }
 
   -- no segment is at fault
@@ -156,7 +155,7 @@ with-values e left = let count : segmentCount _ ≡ _ = ap (λ (x : Loaded). x .
 
 -- what is left for the flows in force at n and at n + 1 is the pair of the step between
 pub pair-left : {sheet : List ℕ} {n m m′ : ℕ} {old new : Columns} → LeftFor sheet (flowInForce sheet n) m old → LeftFor sheet (flowInForce sheet (suc n)) m′ new →
-    PairAsLoaded sheet n (old .numbers) (record { count = m′; columns = new })
+    PairAsLoaded sheet n m′ (old .numbers) new
 pair-left before after = record {
   before = rw (after .lists .count) (rw (before .lists .count) at (before .set));
   after = after .lists;

@@ -2,6 +2,7 @@ pub mod Ranges
 pub mod Refusals
 pub mod Clamp
 pub mod Search
+pub mod Calls
 pub mod FlowRows
 pub mod Bench
 pub mod FlowBench

@@ -11,14 +11,14 @@ use Rattle.model.specs.Sweep.{P, N, F, R, rowOf, newStorage, newSediment
 use Rattle.model.specs.State.{pairAt, numbersAt, segmentAt, figuresAt, writeFigures}
 use Rattle.model.specs.Load.{flowRowFault, testFlows, walk, startsLate, rowFault, gaugeFault, flowFault, faceFault, sumFault, sheetTests, courseTests, listTests, loaded}
 use Rattle.model.specs.Highest.{blocksFault, blockHighest}
-use Rattle.model.specs.Calls.{oldFault, numbersFault, riverFault, segmentFault, figureFault, startFault, stateFault, heldFault, startTests, startAnswer, startState, stepTests, stepAnswer, stepState, stepWorking, startHighest, stepHighest}
+use Rattle.model.specs.Calls.{oldFault, numbersFault, riverFault, segmentFault, figureFault, startFault, stateFault, heldFault, startTests, startLeft, stepLeft, result, stepTests}
 use Rattle.model.specs.Search.{searchTests}
-use Rattle.model.specs.Pool.{openSegments, roomFault, tableFault, numberFault, sharedFault, poolTests, poolStartTests, poolStartAnswer, openTests, openAnswer, openHighest, poolStartHighest, poolSearchTests}
+use Rattle.model.specs.Pool.{openSegments, roomFault, tableFault, numberFault, sharedFault, poolTests, poolResult, openTests, openAnswer, openHighest, poolSearchTests}
 use Rattle.model.specs.Bench.{bytes, allBytes, zeros, noWork, Agree, noState}
 use Rattle.model.specs.FlowBench.{oldSetWith, oldSet, newColumns, someState}
-use Rattle.model.specs.PoolBench.{openAt, closedAt, tableOf, found, twoOpen, poolWith, sheetWithStart}
-use Rattle.model.specs.SearchBench.{fullColumns, fullState, searching, searchBench}
+use Rattle.model.specs.PoolBench.{openAt, closedAt, tableOf, found, twoOpen, poolWith, from10, longPool, shortPool, sheetWithStart}
+use Rattle.model.specs.SearchBench.{fullColumns, fullState, fullLeft, startedHighest, steppedHighest, startingWith, steppingWith, river3Highest, searching, searchingOn, searchBench}
 
 pub search-bench-holds : Agree searchBench
-unfolding blocksFault oldSetWith lowestFrom lowest anyShorter notRising nearest floorDiv outside anyOutside startsWith field headerField sectionEnd sectionsEnd countAt sheetEnd recordField reachFields reachOf reachOn reaches rowStarts rowConcentrations gauges totalSegments segmentCount alongRiver courseOf reachAt ownGain gain flow siteAt fractions numbers loadedSegment P N F R rowOf newStorage newSediment newFigures downward stepped segmentAt figuresAt writeFigures walk startsLate rowFault gaugeFault flowFault faceFault sumFault sheetTests courseTests listTests loaded riverFault segmentFault figureFault startFault stateFault heldFault startTests startAnswer startState stepTests stepAnswer stepState stepWorking bytes allBytes zeros noWork topOf sections edition flowRowCount testFlows numbersFault numbersAt oldFault pairAt flowRowStart flowRowTop flowRowStarts flowRowTops flowRowFault oldSet newColumns someState anyBelow sumBelow openSegments roomFault tableFault numberFault sharedFault poolTests poolStartTests poolStartAnswer openTests openAnswer openAt closedAt tableOf found twoOpen poolWith sheetWithStart highestBelow blockHighest startHighest stepHighest searchTests openHighest poolStartHighest poolSearchTests noState fullColumns fullState searching searchBench
+unfolding blocksFault oldSetWith lowestFrom lowest anyShorter notRising nearest floorDiv outside anyOutside startsWith field headerField sectionEnd sectionsEnd countAt sheetEnd recordField reachFields reachOf reachOn reaches rowStarts rowConcentrations gauges totalSegments segmentCount alongRiver courseOf reachAt ownGain gain flow siteAt fractions numbers loadedSegment P N F R rowOf newStorage newSediment newFigures downward stepped segmentAt figuresAt writeFigures walk startsLate rowFault gaugeFault flowFault faceFault sumFault sheetTests courseTests listTests loaded riverFault segmentFault figureFault startFault stateFault heldFault startTests startLeft stepLeft result stepTests bytes allBytes zeros noWork topOf sections edition flowRowCount testFlows numbersFault numbersAt oldFault pairAt flowRowStart flowRowTop flowRowStarts flowRowTops flowRowFault oldSet newColumns someState anyBelow sumBelow openSegments roomFault tableFault numberFault sharedFault poolTests poolResult openTests openAnswer openAt closedAt tableOf found twoOpen poolWith sheetWithStart highestBelow blockHighest searchTests openHighest poolSearchTests noState fullColumns fullState searching searchBench fullLeft startedHighest steppedHighest startingWith steppingWith from10 longPool shortPool river3Highest searchingOn
 search-bench-holds = (refl, (refl, (refl, (refl, (refl, (refl, (refl, (refl, (refl, (refl, (refl, (refl, (refl, (refl, (refl, (refl, tt))))))))))))))))

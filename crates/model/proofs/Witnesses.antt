@@ -2,7 +2,7 @@
 use mathlib.Core.Path.{_≡_, refl, sym, ap, _∙_}
 use mathlib.Core.List.{List, [], _∷_, _++_, map}
 use mathlib.Core.Logic.{⊎-elim}
-use mathlib.Core.Option.{Option, none, some}
+use mathlib.Core.Option.{Option, some}
 use Prim.Native.Nat.{ℕ, zero, suc, _+_, _*_, _<_}
 use native.Mathlib.Omega.{arith}
 use lib.Dec.{T, leb, lit<, lit≤}
@@ -24,17 +24,16 @@ use Rattle.model.specs.State.{loadedSegments, figuresOf, pairAt, numbers
 use Rattle.model.specs.Refusals.{nothing, accepted, refused, Finding, passes, first}
 use Rattle.model.specs.Load.{flowRowFault, testFlows, walk, startsLate, rowFault, gaugeFault, flowFault, faceFault, sumFault, sheetTests, courseTests, listTests, loadTests, loaded, loadAnswer, loadColumns}
 use Rattle.model.specs.Highest.{blockHighest, blocksFault}
-use Rattle.model.specs.Calls.{oldFault, numbersFault, riverFault, segmentFault, figureFault, startFault, stateFault, heldFault, startTests, startAnswer, startState, startHighest, stepTests, stepAnswer, stepState, stepHighest, reportTests, Reported, reported, reportAnswer}
+use Rattle.model.specs.Calls.{oldFault, numbersFault, riverFault, segmentFault, figureFault, startFault, stateFault, heldFault, startTests, startLeft, stepLeft, result, stepTests, reportTests, start, step, report, Reported, reported}
 use Rattle.model.specs.Search.{searchTests, Above, Finds, Searches, SearchAnswer, Clear}
-use Rattle.model.specs.Runs.{Lent, Call, start, step, report, accepts, after, run, AsLoaded, PairAsLoaded, Fed, events, Exact, noRiver, ExactRun}
+use Rattle.model.specs.Runs.{LoneCall, alone, accepts, after, run, leftSince, AsLoaded, PairAsLoaded, Fed, events, Exact, noRiver, ExactRun}
 use Rattle.model.specs.Claim.{SameFigures, SamePast, Near, Holds, Demand3}
 use Rattle.model.specs.Pool.{vacant, Pool, openSegments, roomFault, tableFault, sharedFault, openTests, openAnswer, openColumns}
 use Rattle.model.specs.PoolClaim.{NoneOpen, vacated}
-use Rattle.model.specs.SearchClaim.{leftSince}
 use Rattle.model.specs.Bench.{bytes, allBytes, zeros, noState, noWork, listed, listedColumns, listedState}
 use Rattle.model.specs.FlowBench.{snow, melting}
-use Rattle.model.specs.PoolBench.{openAt, tableOf, poolWith}
-use Rattle.model.specs.Witnesses.{allClosed, meltingFor, meltingStep, meltingSteps, meltingCalls, AllAccepted, refusedCalls, AllRefused, Demand3Met, LentBench, LoadedListsMet, LeftBench, FiguresBench, OpenedListsMet, OpensAloneBench, kd2, exactly, NearBench, halves, SamePastBench, PairBench, SearchAnswersBench, TellsBench, SearchMet}
+use Rattle.model.specs.PoolBench.{openAt, tableOf, overlapping, from10, poolWith}
+use Rattle.model.specs.Witnesses.{allClosed, meltingFor, meltingStart, meltingStep, meltingSteps, meltingCalls, AllAccepted, refusedCalls, AllRefused, Demand3Met, LentBench, LoadedListsMet, LeftBench, FiguresBench, OpenedListsMet, OpensAloneBench, kd2, exactly, NearBench, halves, SamePastBench, PairBench, SearchAnswersBench, TellsBench, SearchMet}
 use Rattle.model.proofs.Refusals.{outcome-passes}
 use Rattle.model.proofs.Search.{finds-none, finds-some}
 
@@ -54,21 +53,21 @@ first-e [] = 0
 first-e (x ∷ xs) = x .e
 
 -- a pool whose rivers 1 and 2 overlap
-abbrev overlapping : Pool
-overlapping = poolWith (tableOf (openAt 0 2) (openAt 1 1) vacant) 1024
+abbrev overlapped : Pool
+overlapped = poolWith overlapping 1024
 
 -- all that is worked out from the definitions at the figures of a case, at one place
 record WorkedOut : Type 0 where
   -- the calls of demand 3: what they are lent, what they answer, and the refused ones between
-  starting : AsLoaded melting (meltingFor 0)
+  starting : AsLoaded melting 2 (meltingFor 0)
   allAccepted : AllAccepted (noState 2) meltingCalls
-  allRefused : AllRefused (after (noState 2) (start (meltingFor 0) (0 ∷ []) 3000)) refusedCalls
-  fed : Fed melting (after (noState 2) (start (meltingFor 0) (0 ∷ []) 3000)) meltingSteps
-  fedRefused : Fed melting (after (noState 2) (start (meltingFor 0) (0 ∷ []) 3000)) (refusedCalls ++ meltingSteps)
+  allRefused : AllRefused (after (noState 2) meltingStart) refusedCalls
+  fed : Fed melting (after (noState 2) meltingStart) meltingSteps
+  fedRefused : Fed melting (after (noState 2) meltingStart) (refusedCalls ++ meltingSteps)
   -- the count after them, and a report
   steps : run (noState 2) meltingCalls .steps ≡ 2
-  reporting : AsLoaded melting (meltingFor 2)
-  given : (v : Reported) × (reportAnswer 2 (meltingFor 2 .columns) (run (noState 2) meltingCalls) 2 ≡ accepted v)
+  reporting : AsLoaded melting 2 (meltingFor 2)
+  given : (v : Reported) × (result 2 (run (noState 2) meltingCalls) (report (meltingFor 2) 2) .answer ≡ accepted v)
   -- the sheet's loadings and its opening
   loads0 : loadAnswer melting 0 1 (zeros 2) ≡ accepted (loaded melting)
   loads1 : loadAnswer melting 1 1 (zeros 2) ≡ accepted (loaded melting)
@@ -77,8 +76,8 @@ record WorkedOut : Type 0 where
   inForce0 : flowInForce melting 0 ≡ 0
   inForce1 : flowInForce melting 1 ≡ 1
   opens : openAnswer melting 0 1 (zeros 2) allClosed 1 (0 ∷ []) 3000 ≡ accepted (loaded melting)
-  overlaps : openAnswer melting 0 1 (zeros 2) overlapping 3 (0 ∷ []) 3000 ≡ refused 18 nothing
-  opensAlone : openAnswer melting 0 1 (zeros 2) (vacated overlapping) 3 (0 ∷ []) 3000 ≡ accepted (loaded melting)
+  overlaps : openAnswer melting 0 1 (zeros 2) overlapped 3 (0 ∷ []) 3000 ≡ refused 18 nothing
+  opensAlone : openAnswer melting 0 1 (zeros 2) (vacated overlapped) 3 (0 ∷ []) 3000 ≡ accepted (loaded melting)
   -- what is shut out by its figures
   pairs : PairBench
   left : LeftBench
@@ -87,22 +86,22 @@ record WorkedOut : Type 0 where
   search : SearchMet
 
 worked-out : WorkedOut
-unfolding refusedCalls accepts after run meltingFor meltingStep meltingSteps meltingCalls noState lowestFrom lowest anyShorter notRising nearest floorDiv outside anyOutside startsWith field headerField sectionEnd sectionsEnd countAt sheetEnd recordField reachFields reachOf reachOn reaches rowStarts rowConcentrations gauges totalSegments segmentCount alongRiver courseOf reachAt ownGain gain flow siteAt fractions numbers loadedSegment P N F R rowOf newStorage newSediment newFigures downward stepped segmentAt writeSegments figuresAt writeFigures walk startsLate rowFault gaugeFault flowFault faceFault sumFault sheetTests courseTests listTests loadTests loaded loadAnswer loadColumns blocksFault riverFault segmentFault figureFault startFault stateFault heldFault startTests startAnswer startState stepTests stepAnswer stepState reportTests reported reportAnswer bytes allBytes zeros noWork topOf sections edition flowRowCount testFlows numbersFault numbersAt oldFault pairAt lastBegun flowInForce flowRowStart flowRowTop flowRowStarts flowRowTops flowRowFault snow melting first-e listed listedColumns listedState anyBelow sumBelow openSegments roomFault tableFault sharedFault openTests openAnswer openColumns allClosed openAt tableOf poolWith leftSince searchTests highestBelow blockHighest startHighest stepHighest
+unfolding from10 refusedCalls accepts after run meltingFor meltingStart overlapping meltingStep meltingSteps meltingCalls noState lowestFrom lowest anyShorter notRising nearest floorDiv outside anyOutside startsWith field headerField sectionEnd sectionsEnd countAt sheetEnd recordField reachFields reachOf reachOn reaches rowStarts rowConcentrations gauges totalSegments segmentCount alongRiver courseOf reachAt ownGain gain flow siteAt fractions numbers loadedSegment P N F R rowOf newStorage newSediment newFigures downward stepped segmentAt writeSegments figuresAt writeFigures walk startsLate rowFault gaugeFault flowFault faceFault sumFault sheetTests courseTests listTests loadTests loaded loadAnswer loadColumns blocksFault riverFault segmentFault figureFault startFault stateFault heldFault startTests startLeft stepLeft result stepTests reportTests reported bytes allBytes zeros noWork topOf sections edition flowRowCount testFlows numbersFault numbersAt oldFault pairAt lastBegun flowInForce flowRowStart flowRowTop flowRowStarts flowRowTops flowRowFault snow melting first-e listed listedColumns listedState anyBelow sumBelow openSegments roomFault tableFault sharedFault openTests openAnswer openColumns allClosed openAt tableOf poolWith leftSince searchTests highestBelow blockHighest
 worked-out =
-    let pair0 : PairAsLoaded melting 0 (meltingFor 0 .columns .numbers) (meltingFor 1) = record { before = refl; after = record { count = refl; segments = refl } } in
-    let pair1 : PairAsLoaded melting 1 (meltingFor 1 .columns .numbers) (meltingFor 1) = record { before = refl; after = record { count = refl; segments = refl } } in
-    let report2 : AsLoaded melting (meltingFor 2) = record { flow = 2; known = lit≤ tt; lists = record { count = refl; segments = refl } } in
-    let fed : Fed melting (after (noState 2) (start (meltingFor 0) (0 ∷ []) 3000)) meltingSteps =
-    Fed.more {call = meltingStep 0 1} (λ t. pair0) (Fed.more {call = meltingStep 1 1} (λ t. pair1) (Fed.more {call = report (meltingFor 2) 2} (λ t. report2) Fed.none)) in
-    let none : Lent = record { count = 0; columns = zeros 0 } in
+    let pair0 : PairAsLoaded melting 0 2 (meltingFor 0 .numbers) (meltingFor 1) = record { before = refl; after = record { count = refl; segments = refl } } in
+    let pair1 : PairAsLoaded melting 1 2 (meltingFor 1 .numbers) (meltingFor 1) = record { before = refl; after = record { count = refl; segments = refl } } in
+    let report2 : AsLoaded melting 2 (meltingFor 2) = record { flow = 2; known = lit≤ tt; lists = record { count = refl; segments = refl } } in
+    let fed : Fed melting (after (noState 2) meltingStart) meltingSteps =
+    Fed.more {call = alone 2 (meltingStep 0 1)} (λ t. pair0) (Fed.more {call = alone 2 (meltingStep 1 1)} (λ t. pair1) (Fed.more {call = alone 2 (report (meltingFor 2) 2)} (λ t. report2) Fed.none)) in
     record {
       starting = record { flow = 0; known = lit≤ tt; lists = record { count = refl; segments = refl } };
       allAccepted = (tt, (tt, (tt, (tt, tt))));
       allRefused = (λ t. t, (λ t. t, (λ t. t, tt)));
       fed = fed;
       fedRefused =
-          Fed.more {call = start none [] 3000} (λ t. absurd t)
-          (Fed.more {call = step (zeros 0 .numbers) none [] (noWork 0) 3000 4} (λ t. absurd t) (Fed.more {call = report none 1} (λ t. absurd t) fed));
+          Fed.more {call = alone 0 (start (zeros 0) [] 3000)} (λ t. absurd t)
+          (Fed.more {call = alone 0 (step (zeros 0 .numbers) (zeros 0) [] (noWork 0) 3000 4)} (λ t. absurd t)
+          (Fed.more {call = alone 0 (report (zeros 0) 1)} (λ t. absurd t) fed));
       steps = refl;
       reporting = report2;
       given = (_, refl);
@@ -152,19 +151,20 @@ search-met = worked-out .search
 -- ---- demand 3: its premises
 
 pub melting-fed : Fed melting (noState 2) meltingCalls
-unfolding meltingCalls
-melting-fed = Fed.more {call = start (meltingFor 0) (0 ∷ []) 3000} (λ t. worked-out .starting) (worked-out .fed)
+unfolding meltingCalls meltingStart
+melting-fed = Fed.more {call = meltingStart} (λ t. worked-out .starting) (worked-out .fed)
 
 -- the same with refused calls between, which may be lent anything and leave the state as it was
-refused-fed : Fed melting (noState 2) (start (meltingFor 0) (0 ∷ []) 3000 ∷ refusedCalls ++ meltingSteps)
-refused-fed = Fed.more {call = start (meltingFor 0) (0 ∷ []) 3000} (λ t. worked-out .starting) (worked-out .fedRefused)
+refused-fed : Fed melting (noState 2) (meltingStart ∷ refusedCalls ++ meltingSteps)
+unfolding meltingStart
+refused-fed = Fed.more {call = meltingStart} (λ t. worked-out .starting) (worked-out .fedRefused)
 
 -- the start that a list of the claim begins with
-demand-3-of : (calls : List Call) → Fed melting (noState 2) (start (meltingFor 0) (0 ∷ []) 3000 ∷ calls) → Demand3 →
-    Holds melting (noState 2) (start (meltingFor 0) (0 ∷ []) 3000 ∷ calls)
-unfolding meltingCalls
+demand-3-of : (calls : List LoneCall) → Fed melting (noState 2) (meltingStart ∷ calls) → Demand3 →
+    Holds melting (noState 2) (meltingStart ∷ calls)
+unfolding meltingCalls meltingStart
 demand-3-of calls fed claim =
-    claim melting 0 (reachOf (λ k. 0) ∷ []) (zeros 2) (loaded melting) (worked-out .loads0) (noState 2) (meltingFor 0) (0 ∷ []) 3000 calls (worked-out .allAccepted .0) fed
+    claim melting 0 (reachOf (λ k. 0) ∷ []) (zeros 2) (loaded melting) (worked-out .loads0) (noState 2) 2 (meltingFor 0) (0 ∷ []) 3000 calls (worked-out .allAccepted .0) fed
 
 -- what it says of the accepted ones
 melting-near : Holds melting (noState 2) meltingCalls → (q : Exact) × ExactRun melting noRiver (events (noState 2) meltingCalls) q × (q .n ≡ 2)
@@ -185,12 +185,12 @@ demand-3-met = record {
   says = λ claim. melting-near (demand-3-of meltingSteps melting-fed claim);
   saysReport = λ claim.
       let told = worked-out .given in
-      (told .0, told .1, demand-3-of meltingSteps melting-fed claim .reports (meltingFor 2) 2 (told .0) (worked-out .reporting) (told .1));
+      (told .0, told .1, demand-3-of meltingSteps melting-fed claim .reports 2 (meltingFor 2) 2 (told .0) (worked-out .reporting) (told .1));
   saysRefused = λ claim. demand-3-of (refusedCalls ++ meltingSteps) refused-fed claim;
 }
 
 pub lent-bench : LentBench
-lent-bench sheet state lent = (λ loaded highest u. loaded, λ loaded number. loaded, λ old pair highest working u′ M. pair)
+lent-bench sheet state n columns = (λ loaded highest u. loaded, λ loaded number. loaded, λ old pair highest working u′ M. pair)
 
 -- ---- demand 3: its conclusion
 

@@ -11,7 +11,7 @@ use Rattle.model.specs.HalfStep.{tenOf, siteAt, discharge, numbers}
 use Rattle.model.specs.State.{Columns, State}
 use Rattle.model.specs.Refusals.{Outcome, accepted, refused}
 use Rattle.model.specs.Load.{loadAnswer, loadColumns}
-use Rattle.model.specs.Calls.{Working, startState, stepState, stepWorking, Reported, reportAnswer}
+use Rattle.model.specs.Calls.{Working, Left, Reported, start, step, report, result}
 
 -- a field's four bytes, and a sheet of such fields
 unfoldable pub bytes : ℕ → List ℕ
@@ -63,7 +63,11 @@ brook2 = loadColumns (brook 1 0 2 3000) 0 1 (zeros 2)
 
 -- its start, with U 3,000
 unfoldable pub started2 : State
-started2 = startState 2 brook2 (noState 2) (0 ∷ []) 3000
+started2 = result 2 (noState 2) (start brook2 (0 ∷ []) 3000) .left .state
+
+-- what the step leaves
+unfoldable pub stepped2 : Left State
+stepped2 = result 2 started2 (step (brook2 .numbers) brook2 (0 ∷ []) (noWork 2) 3000 1) .left
 
 -- a line of a table: its number, what the definitions give and what the figures are to be, here those that the documents print
 pub record Line : Type 0 where
@@ -71,24 +75,28 @@ pub record Line : Type 0 where
   pub given : List ℕ
   pub printed : List ℕ
 
+-- one by these
+abbrev pub line : (number : ℕ) → (given printed : List ℕ) → Line
+line number given printed = record { number = number; given = given; printed = printed }
+
 -- T1 to T11
 unfoldable pub bench : List Line
 bench =
     -- "the fraction 1/3", "1/2^31", "0"
-    record { number = 1; given = parts 1 3 ∷ []; printed = 357913941 ∷ [] } ∷
-    record { number = 2; given = parts 1 (2 ^ 31) ∷ []; printed = 1 ∷ [] } ∷
-    record { number = 3; given = parts 0 1 ∷ []; printed = 0 ∷ [] } ∷
+    line 1 (parts 1 3 ∷ []) (357913941 ∷ []) ∷
+    line 2 (parts 1 (2 ^ 31) ∷ []) (1 ∷ []) ∷
+    line 3 (parts 0 1 ∷ []) (0 ∷ []) ∷
     -- document 02, 2: "T4 becomes 69 less and T5 114 less"
-    record { number = 4; given = (1000 - discharge (siteAt slope 1)) ∷ []; printed = 69 ∷ [] } ∷
-    record { number = 5; given = (1000 - discharge (siteAt slope 2)) ∷ []; printed = 114 ∷ [] } ∷
+    line 4 ((1000 - discharge (siteAt slope 1)) ∷ []) (69 ∷ []) ∷
+    line 5 ((1000 - discharge (siteAt slope 2)) ∷ []) (114 ∷ []) ∷
     -- "e is one whole, accepted"; "refused 12"; "refused 11"; "refused 11"
-    record { number = 6; given = numbers (siteAt (courseOf (brook 2 1000 1 0) 0) 0) .e ∷ brookRefusal 2 1000; printed = S ∷ [] } ∷
-    record { number = 7; given = brookRefusal 3 1000; printed = 12 ∷ [] } ∷
-    record { number = 8; given = brookRefusal 2 1001; printed = 11 ∷ [] } ∷
-    record { number = 9; given = brookRefusal 3 1001; printed = 11 ∷ [] } ∷
+    line 6 (numbers (siteAt (courseOf (brook 2 1000 1 0) 0) 0) .e ∷ brookRefusal 2 1000) (S ∷ []) ∷
+    line 7 (brookRefusal 3 1000) (12 ∷ []) ∷
+    line 8 (brookRefusal 2 1001) (11 ∷ []) ∷
+    line 9 (brookRefusal 3 1001) (11 ∷ []) ∷
     -- "after one step C is 1,035 and 207"; "there p of segment 1 is 178,956,971"
-    record { number = 10; given = stepState 2 (brook2 .numbers) brook2 started2 (0 ∷ []) (noWork 2) 3000 1 .channel; printed = 1035 ∷ 207 ∷ [] } ∷
-    record { number = 11; given = getD (stepWorking 2 (brook2 .numbers) brook2 started2 (0 ∷ []) (noWork 2) 3000 1 .p) 0 0 ∷ []; printed = 178956971 ∷ [] } ∷
+    line 10 (stepped2 .state .channel) (1035 ∷ 207 ∷ []) ∷
+    line 11 (getD (stepped2 .working .p) 0 0 ∷ []) (178956971 ∷ []) ∷
     []
 
 -- The listing's river: "Brook, one segment, dt 2, M 2, interval 1, Q 0, AS 100, LAMHAT and LAMHAT2 each 500,000,000, Kd 2, CB 600, one
@@ -107,8 +115,8 @@ listedColumns = loadColumns listed 0 1 (zeros 1)
 
 -- loaded, started, and stepped with the row's figure
 unfoldable pub listedState : (steps : ℕ) → State
-listedState zero = startState 1 listedColumns (noState 1) (0 ∷ []) 3000
-listedState (suc n) = stepState 1 (listedColumns .numbers) listedColumns (listedState n) (0 ∷ []) (noWork 1) 3000 2
+listedState zero = result 1 (noState 1) (start listedColumns (0 ∷ []) 3000) .left .state
+listedState (suc n) = result 1 (listedState n) (step (listedColumns .numbers) listedColumns (0 ∷ []) (noWork 1) 3000 2) .left .state
 
 -- what a line prints of a report
 abbrev pub figures : Outcome Reported → List ℕ
@@ -118,11 +126,11 @@ figures (refused number place) = number ∷ []
 -- the listing's lines, by step
 unfoldable pub listing : List Line
 listing =
-    record { number = 1; given = figures (reportAnswer 1 listedColumns (listedState 1) 1); printed = 2000 ∷ 400 ∷ 1334 ∷ [] } ∷
-    record { number = 2; given = figures (reportAnswer 1 listedColumns (listedState 2) 1); printed = 2667 ∷ 533 ∷ 3556 ∷ [] } ∷
+    line 1 (figures (result 1 (listedState 1) (report listedColumns 1) .answer)) (2000 ∷ 400 ∷ 1334 ∷ []) ∷
+    line 2 (figures (result 1 (listedState 2) (report listedColumns 1) .answer)) (2667 ∷ 533 ∷ 3556 ∷ []) ∷
     []
 
 -- every line of a table gives the figures that are printed
 abbrev pub Agree : List Line → Type 0
 Agree [] = Unit {0}
-Agree (line ∷ lines) = (line .given ≡ line .printed) × Agree lines
+Agree (x ∷ xs) = (x .given ≡ x .printed) × Agree xs

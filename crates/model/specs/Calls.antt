@@ -1,5 +1,5 @@
--- Start, step and report: their tests 13 to 15, their answers, and the later content of the lists that they are lent.
-use mathlib.Core.Bool.{Bool, not, _&&_, _||_}
+-- Start, step and report: their tests 13 to 15, what each answers and leaves where they pass, and then the outcome of any of the three.
+use mathlib.Core.Bool.{Bool, true, false, not, _&&_, _||_}
 use mathlib.Core.List.{List, [], _∷_, _++_, map}
 use Prim.Native.Nat.{ℕ, suc, _+_, _-_, _*_}
 use lib.Dec.{eqb, ltb, leb}
@@ -11,7 +11,7 @@ use Rattle.model.specs.Sweep.{downward, stepped}
 use Rattle.model.specs.State.{NumberSet, setLists, numbersAt, Columns, columnLists, segmentAt, segmentsOf, pairsOf, State, stateLists, figuresAt, figuresOf, writeFigures}
 use Rattle.model.specs.Refusals.{segment, Outcome, accepted, refused, Finding, test, testEach, outcomeOf}
 use Rattle.model.specs.Load.{sumFault}
-use Rattle.model.specs.Highest.{blocksFault, highestAfter}
+use Rattle.model.specs.Highest.{highestOf, blocksFault}
 
 -- 13. "A lent list is shorter than the river .., or the river has no segment or over 1,024"
 unfoldable pub riverFault : (n : ℕ) → List (List ℕ) → Bool
@@ -47,6 +47,22 @@ oldFault n old i = numbersFault (eqb (suc i) n) (numbersAt old i)
 unfoldable pub heldFault : State → Bool
 heldFault state = outside concentration (state .upstream) || ltb mostSteps (state .steps)
 
+-- the two working lists of a step, p and y
+pub record Working : Type 0 where
+  pub p : List ℕ
+  pub y : List ℕ
+
+-- those of a call that is lent none
+abbrev pub noWorking : Working
+noWorking = record { p = []; y = [] }
+
+-- what a call leaves: the state (on a pool, the pool), the highest figures, "true after every start and step", and the working lists; a list that
+-- it is not lent is empty here
+pub record Left (S : Type 0) : Type 0 where
+  pub state : S
+  pub highest : List ℕ
+  pub working : Working
+
 -- what an accepted start or step hands back: U and the count of steps done
 pub record River : Type 0 where
   pub upstream : ℕ
@@ -62,34 +78,17 @@ startTests n columns state highest u =
     test 14 (outside concentration u) ∷
     []
 
--- the answer
-unfoldable pub startAnswer : (n : ℕ) → Columns → State → (highest : List ℕ) → (u : ℕ) → Outcome River
-startAnswer n columns state highest u = outcomeOf (startTests n columns state highest u) (record { upstream = u; steps = 0 })
-
 -- "C, Z and W to the start figure"
 abbrev pub startFigures : Segment → Figures
 startFigures x = record { c = x .start; z = x .start; w = x .start }
 
--- what a start with this answer leaves: "Only an accepted call writes, and only the first entries it needs."
-abbrev pub stateAfterStart : Outcome River → (n : ℕ) → Columns → State → State
-stateAfterStart (accepted v) n columns state = writeFigures (map startFigures (segmentsOf n columns)) (v .upstream) (v .steps) state
-stateAfterStart (refused number place) n columns state = state
-
--- the state afterwards
-unfoldable pub startState : (n : ℕ) → Columns → State → (highest : List ℕ) → (u : ℕ) → State
-startState n columns state highest u = stateAfterStart (startAnswer n columns state highest u) n columns state
-
--- and the highest figures, those of the state that it leaves
-unfoldable pub startHighest : (n : ℕ) → Columns → State → (highest : List ℕ) → (u : ℕ) → List ℕ
-startHighest n columns state highest u =
-    highestAfter (startAnswer n columns state highest u) n (startState n columns state highest u .channel) highest
+-- what it leaves
+unfoldable pub startLeft : (n : ℕ) → Columns → State → (highest : List ℕ) → (u : ℕ) → Left State
+startLeft n columns state highest u =
+    let begun = writeFigures (map startFigures (segmentsOf n columns)) u 0 state in
+    record { state = begun; highest = over (highestOf n (begun .channel)) highest; working = noWorking }
 
 -- ---- a step: "handed .. U' and M"; `old` is the set of its old side, `new` has that of its new side
-
--- the two working lists, p and y
-pub record Working : Type 0 where
-  pub p : List ℕ
-  pub y : List ℕ
 
 -- "a step 13 to 15"; "A step is lent both sets, and 14 looks at both"
 unfoldable pub stepTests : (n : ℕ) → (old : NumberSet) → (new : Columns) → State → (highest : List ℕ) → Working → (u′ M : ℕ) → List Finding
@@ -100,37 +99,16 @@ stepTests n old new state highest working u′ M =
     test 15 (leb M (state .steps)) ∷
     []
 
--- "After a step the state's U is that step's U'."
-unfoldable pub stepAnswer : (n : ℕ) → (old : NumberSet) → (new : Columns) → State → (highest : List ℕ) → Working → (u′ M : ℕ) → Outcome River
-stepAnswer n old new state highest working u′ M =
-    outcomeOf (stepTests n old new state highest working u′ M) (record { upstream = u′; steps = suc (state .steps) })
-
--- what a step with this answer leaves
-abbrev pub stateAfterStep : Outcome River → (n : ℕ) → (old : NumberSet) → (new : Columns) → State → State
-stateAfterStep (accepted v) n old new state =
-    writeFigures (stepped (state .upstream) (v .upstream) (pairsOf n old new) (figuresOf n state)) (v .upstream) (v .steps) state
-stateAfterStep (refused number place) n old new state = state
-
--- the state afterwards
-unfoldable pub stepState : (n : ℕ) → (old : NumberSet) → (new : Columns) → State → (highest : List ℕ) → Working → (u′ M : ℕ) → State
-stepState n old new state highest working u′ M = stateAfterStep (stepAnswer n old new state highest working u′ M) n old new state
-
--- and the highest figures
-unfoldable pub stepHighest : (n : ℕ) → (old : NumberSet) → (new : Columns) → State → (highest : List ℕ) → Working → (u′ M : ℕ) → List ℕ
-stepHighest n old new state highest working u′ M =
-    highestAfter (stepAnswer n old new state highest working u′ M) n (stepState n old new state highest working u′ M .channel) highest
-
--- the working lists afterwards: p and y of the downward pass over their first entries
-abbrev pub workingAfterStep : Outcome River → (n : ℕ) → (old : NumberSet) → (new : Columns) → State → Working → Working
-workingAfterStep (accepted v) n old new state working =
-    let passed = downward (state .upstream) (v .upstream) (pairsOf n old new) (figuresOf n state) in
-    record { p = over (map (λ x. x .p) passed) (working .p); y = over (map (λ x. x .y) passed) (working .y) }
-workingAfterStep (refused number place) n old new state working = working
-
--- and with its own answer
-unfoldable pub stepWorking : (n : ℕ) → (old : NumberSet) → (new : Columns) → State → (highest : List ℕ) → Working → (u′ M : ℕ) → Working
-stepWorking n old new state highest working u′ M =
-    workingAfterStep (stepAnswer n old new state highest working u′ M) n old new state working
+-- what it leaves: "After a step the state's U is that step's U'."; the working lists have p and y of the downward pass
+unfoldable pub stepLeft : (n : ℕ) → (old : NumberSet) → (new : Columns) → State → (highest : List ℕ) → Working → (u′ : ℕ) → Left State
+stepLeft n old new state highest working u′ =
+    let after = writeFigures (stepped (state .upstream) u′ (pairsOf n old new) (figuresOf n state)) u′ (suc (state .steps)) state in
+    let passed = downward (state .upstream) u′ (pairsOf n old new) (figuresOf n state) in
+    record {
+      state = after;
+      highest = over (highestOf n (after .channel)) highest;
+      working = record { p = over (map (λ x. x .p) passed) (working .p); y = over (map (λ x. x .y) passed) (working .y) };
+    }
 
 -- ---- a report: "a segment, for which it gives C, Z and Kd × W"; segments count from 1
 
@@ -154,6 +132,65 @@ reported columns state i =
     let f = figuresAt state i in
     record { channel = f .c; storage = f .z; sediment = segmentAt columns i .kd * f .w }
 
--- the answer; nothing is written
-unfoldable pub reportAnswer : (n : ℕ) → Columns → State → (number : ℕ) → Outcome Reported
-reportAnswer n columns state number = outcomeOf (reportTests n columns state number) (reported columns state (number - 1))
+-- ---- the outcome of a call
+
+-- a call, by what it is lent beside the state and the segment count, and what it is handed: "A start is also handed U at step 0; a step U' and M; a
+-- report a segment"
+pub data Call : Type 0 where
+  start : Columns → (highest : List ℕ) → (u : ℕ) → Call
+  step : (old : NumberSet) → (new : Columns) → (highest : List ℕ) → Working → (u′ M : ℕ) → Call
+  report : Columns → (number : ℕ) → Call
+
+-- its tests, in their order
+abbrev pub callTests : (n : ℕ) → State → Call → List Finding
+callTests n state (start columns highest u) = startTests n columns state highest u
+callTests n state (step old new highest working u′ M) = stepTests n old new state highest working u′ M
+callTests n state (report columns number) = reportTests n columns state number
+
+-- what it hands back where they pass
+abbrev pub Values : Call → Type 0
+Values (start columns highest u) = River
+Values (step old new highest working u′ M) = River
+Values (report columns number) = Reported
+
+abbrev pub callValues : State → (call : Call) → Values call
+callValues state (start columns highest u) = record { upstream = u; steps = 0 }
+callValues state (step old new highest working u′ M) = record { upstream = u′; steps = suc (state .steps) }
+callValues state (report columns number) = reported columns state (number - 1)
+
+-- what it leaves where they pass; a report writes nothing
+abbrev pub callLeft : (n : ℕ) → State → Call → Left State
+callLeft n state (start columns highest u) = startLeft n columns state highest u
+callLeft n state (step old new highest working u′ M) = stepLeft n old new state highest working u′
+callLeft n state (report columns number) = record { state = state; highest = []; working = noWorking }
+
+-- and where one does not: what it was lent
+abbrev pub callLent : {S : Type 0} → S → Call → Left S
+callLent state (start columns highest u) = record { state = state; highest = highest; working = noWorking }
+callLent state (step old new highest working u′ M) = record { state = state; highest = highest; working = working }
+callLent state (report columns number) = record { state = state; highest = []; working = noWorking }
+
+-- a call's outcome: its answer, and what it leaves
+pub record Result (S A : Type 0) : Type 0 where
+  pub answer : Outcome A
+  pub left : Left S
+
+-- "Only an accepted call writes, and only the first entries it needs."
+abbrev pub leftAfter : {A B : Type 0} → Outcome A → (lent written : B) → B
+leftAfter (accepted v) lent written = written
+leftAfter (refused number place) lent written = lent
+
+-- the outcome of a call with these tests
+abbrev pub resultOf : {S A : Type 0} → List Finding → A → (lent written : Left S) → Result S A
+resultOf tests values lent written =
+    record { answer = outcomeOf tests values; left = leftAfter (outcomeOf tests values) lent written }
+
+-- that of a call on lists alone, of n segments
+unfoldable pub result : (n : ℕ) → State → (call : Call) → Result State (Values call)
+result n state call = resultOf (callTests n state call) (callValues state call) (callLent state call) (callLeft n state call)
+
+-- a start or a step, which leave highest figures; a report leaves none
+abbrev pub leavesHighest : Call → Bool
+leavesHighest (start columns highest u) = true
+leavesHighest (step old new highest working u′ M) = true
+leavesHighest (report columns number) = false

@@ -15,8 +15,8 @@ use Rattle.model.specs.ExactRiver.{ExactFigures}
 use Rattle.model.specs.State.{Columns, columnLists, loadedSegments, State, figuresAt, figuresOf}
 use Rattle.model.specs.Refusals.{accepted}
 use Rattle.model.specs.Load.{Loaded, loadAnswer, loadColumns}
-use Rattle.model.specs.Calls.{Reported, reportAnswer}
-use Rattle.model.specs.Runs.{Lent, Call, start, accepts, run, LoadedFor, SetFor, AsLoaded, PairAsLoaded, Fed, events, Exact, noRiver, ExactRun}
+use Rattle.model.specs.Calls.{Reported, start, report, result}
+use Rattle.model.specs.Runs.{LoneCall, alone, accepts, run, LoadedFor, SetFor, AsLoaded, PairAsLoaded, Fed, events, Exact, noRiver, ExactRun}
 
 -- two lists "hold the same figures", segment by segment
 pub data SameFigures : List ExactFigures → List ExactFigures → Type 0 where
@@ -47,7 +47,7 @@ pub record FiguresOf (sheet : List ℕ) (state : State) (number : ℕ) (v : Repo
   pub sediment : v .sediment ≡ loadedSegment (courseOf sheet 0) (number - 1) .kd * figuresAt state (number - 1) .w
 
 -- after a list of calls from a state, on a river of this sheet
-pub record Holds (sheet : List ℕ) (before : State) (calls : List Call) : Type 0 where
+pub record Holds (sheet : List ℕ) (before : State) (calls : List LoneCall) : Type 0 where
   -- "Such fractions always exist"
   pub exists : (q : Exact) × ExactRun sheet noRiver (events before calls) q
   -- "any two lists of them, for all segments at steps 0 to n, hold the same figures"
@@ -60,8 +60,8 @@ pub record Holds (sheet : List ℕ) (before : State) (calls : List Call) : Type 
   pub near : (q : Exact) → ExactRun sheet noRiver (events before calls) q →
       Near (6 * q .n) (loadedSegments sheet 0) (figuresOf (segmentCount sheet) (run before calls)) (q .now)
   -- "an accepted report made then gives these figures of the state"
-  pub reports : (lent : Lent) (number : ℕ) (v : Reported) → AsLoaded sheet lent →
-      reportAnswer (lent .count) (lent .columns) (run before calls) number ≡ accepted v →
+  pub reports : (n : ℕ) (columns : Columns) (number : ℕ) (v : Reported) → AsLoaded sheet n columns →
+      result n (run before calls) (report columns number) .answer ≡ accepted v →
       FiguresOf sheet (run before calls) number v
 
 -- "A run is one accepted loading, one accepted start into lists of any content, then any list of starts, steps and reports, refused
@@ -70,14 +70,15 @@ abbrev pub Demand3 : Type 0
 Demand3 =
     (sheet : List ℕ) (r : ℕ) (records : List Reach) (columns : Columns) (v : Loaded) →
     loadAnswer sheet r (length records) columns ≡ accepted v →
-    (before : State) (lent : Lent) (highest : List ℕ) (u : ℕ) (calls : List Call) → T (accepts before (start lent highest u)) →
-    Fed sheet before (start lent highest u ∷ calls) → Holds sheet before (start lent highest u ∷ calls)
+    (before : State) (n : ℕ) (lent : Columns) (highest : List ℕ) (u : ℕ) (calls : List LoneCall) →
+    let first = alone n (start lent highest u) in
+    T (accepts before first) → Fed sheet before (first ∷ calls) → Holds sheet before (first ∷ calls)
 
 -- what a loading leaves for flow r, in lists of n segments: what an accepted call is to be lent and, as `lists` implies, an old set. `lists` reads
 -- 0 past the end of a list, so that 13 of the lists stands beside it.
 pub record LeftFor (sheet : List ℕ) (r n : ℕ) (columns : Columns) : Type 0 where
   pub known : r ≤ flowRowCount sheet
-  pub lists : LoadedFor sheet r (record { count = n; columns = columns })
+  pub lists : LoadedFor sheet r n columns
   pub set : SetFor sheet r n (columns .numbers)
   pub long : anyShorter n (columnLists columns) ≡ false
 
@@ -96,5 +97,5 @@ pub record LoadedLists : Type 0 where
       loadAnswer sheet r (length records) columns ≡ accepted v → loadAnswer sheet r′ (length records′) columns′ ≡ accepted v′ → (n : ℕ) →
       (loadAnswer sheet (flowInForce sheet n) (length records) columns ≡ accepted v)
       × (loadAnswer sheet (flowInForce sheet (suc n)) (length records′) columns′ ≡ accepted v′)
-      × PairAsLoaded sheet n (loadColumns sheet (flowInForce sheet n) (length records) columns .numbers)
-      (record { count = v′ .segments; columns = loadColumns sheet (flowInForce sheet (suc n)) (length records′) columns′ })
+      × PairAsLoaded sheet n (v′ .segments) (loadColumns sheet (flowInForce sheet n) (length records) columns .numbers)
+      (loadColumns sheet (flowInForce sheet (suc n)) (length records′) columns′)

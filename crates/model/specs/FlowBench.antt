@@ -13,9 +13,9 @@ use Rattle.model.specs.ExactRiver.{ExactFigures, ExactStep}
 use Rattle.model.specs.State.{NumberSet, Columns, State}
 use Rattle.model.specs.Refusals.{nothing, reach, segment, row, Outcome, accepted, refused}
 use Rattle.model.specs.Load.{loaded, loadAnswer, loadColumns}
-use Rattle.model.specs.Calls.{stepAnswer, stepState, stepWorking}
+use Rattle.model.specs.Calls.{Left, Call, step, result}
 use Rattle.model.specs.Runs.{sheetPair}
-use Rattle.model.specs.Bench.{allBytes, brook, zeros, noWork, Line}
+use Rattle.model.specs.Bench.{allBytes, brook, zeros, noWork, Line, line}
 
 -- document 01's brook with dt, its segments, M 4, the flow at the top, an outflow and a gauge, and then the flow rows behind their count
 unfoldable pub snow : (dt segments Q qout gauge : ℕ) → (rows : List ℕ) → List ℕ
@@ -45,6 +45,10 @@ flowRowsTold sheet = loaded sheet .flowRowsAt ∷ loaded sheet .flowRows ∷ []
 -- a loading for flow r, into lists of two entries
 unfoldable pub loadingOf : List ℕ → (r : ℕ) → List ℕ
 loadingOf sheet r = refusedAt (loadAnswer sheet r 1 (zeros 2))
+
+-- one for the flow at the top, of two segments and these flow rows behind their count
+unfoldable pub withRows : List ℕ → List ℕ
+withRows rows = loadingOf (snow 1 2 0 0 1 rows) 0
 
 -- the first segment's e in flow r's set
 unfoldable pub firstE : List ℕ → (r : ℕ) → ℕ
@@ -108,48 +112,56 @@ someState = record {
   steps = 0;
 }
 
--- what a step with this old set answers
+-- a step from this old set to the new one
+unfoldable pub stepFrom : NumberSet → Call
+stepFrom old = step old newColumns (0 ∷ []) (noWork 2) 1500000 1
+
+-- what it answers
 unfoldable pub steppingFrom : NumberSet → List ℕ
-steppingFrom old = refusedAt (stepAnswer 2 old newColumns someState (0 ∷ []) (noWork 2) 1500000 1)
+steppingFrom old = refusedAt (result 2 someState (stepFrom old) .answer)
+
+-- what it leaves
+unfoldable pub someLeft : Left State
+someLeft = result 2 someState (stepFrom oldSet) .left
 
 -- the table
 unfoldable pub flowBench : List Line
 flowBench =
     -- the flow in force at steps 0 to 4, and the pairs of steps 1 to 4: e is 1/4, 7/20 and 1/2 of one whole for the three flows
-    record { number = 1; given = map (flowInForce melting) (0 ∷ 1 ∷ 2 ∷ 3 ∷ 4 ∷ []); printed = 0 ∷ 1 ∷ 1 ∷ 2 ∷ 2 ∷ [] } ∷
-    record { number = 2; given = map oldE (0 ∷ 1 ∷ 2 ∷ 3 ∷ []); printed = 268435456 ∷ 375809638 ∷ 375809638 ∷ 536870912 ∷ [] } ∷
-    record { number = 3; given = map newE (0 ∷ 1 ∷ 2 ∷ 3 ∷ []); printed = 375809638 ∷ 375809638 ∷ 536870912 ∷ 536870912 ∷ [] } ∷
+    line 1 (map (flowInForce melting) (0 ∷ 1 ∷ 2 ∷ 3 ∷ 4 ∷ [])) (0 ∷ 1 ∷ 1 ∷ 2 ∷ 2 ∷ []) ∷
+    line 2 (map oldE (0 ∷ 1 ∷ 2 ∷ 3 ∷ [])) (268435456 ∷ 375809638 ∷ 375809638 ∷ 536870912 ∷ []) ∷
+    line 3 (map newE (0 ∷ 1 ∷ 2 ∷ 3 ∷ [])) (375809638 ∷ 375809638 ∷ 536870912 ∷ 536870912 ∷ []) ∷
     -- each flow's own set; "13 if past the rows", of OTR1 any but 0
-    record { number = 4; given = map (firstE melting) (0 ∷ 1 ∷ 2 ∷ []); printed = 268435456 ∷ 375809638 ∷ 536870912 ∷ [] } ∷
-    record { number = 5; given = loadingOf melting 2 ++ loadingOf melting 3; printed = 0 ∷ 0 ∷ 13 ∷ 0 ∷ [] } ∷
-    record { number = 6; given = loadingOf (brook 1 0 2 0) 0 ++ loadingOf (brook 1 0 2 0) 1; printed = 0 ∷ 0 ∷ 13 ∷ 0 ∷ [] } ∷
+    line 4 (map (firstE melting) (0 ∷ 1 ∷ 2 ∷ [])) (268435456 ∷ 375809638 ∷ 536870912 ∷ []) ∷
+    line 5 (loadingOf melting 2 ++ loadingOf melting 3) (0 ∷ 0 ∷ 13 ∷ 0 ∷ []) ∷
+    line 6 (loadingOf (brook 1 0 2 0) 0 ++ loadingOf (brook 1 0 2 0) 1) (0 ∷ 0 ∷ 13 ∷ 0 ∷ []) ∷
     -- "where the flow rows begin and how many there are (both 0 in OTR1)"
-    record { number = 7; given = flowRowsTold melting ++ flowRowsTold (brook 1 0 2 0); printed = 116 ∷ 2 ∷ 0 ∷ 0 ∷ [] } ∷
+    line 7 (flowRowsTold melting ++ flowRowsTold (brook 1 0 2 0)) (116 ∷ 2 ∷ 0 ∷ 0 ∷ []) ∷
     -- a count of 0 and of 65; "checks 2 and 4 go by whichever section is last": no section, a row cut short, a field too many
-    record { number = 8; given = loadingOf (snow 1 2 0 0 1 (0 ∷ [])) 0 ++ loadingOf (snow 1 2 0 0 1 (65 ∷ [])) 0; printed = 3 ∷ 0 ∷ 3 ∷ 0 ∷ [] } ∷
-    record { number = 9; given = loadingOf (snow 1 2 0 0 1 []) 0 ++ loadingOf (snow 1 2 0 0 1 (1 ∷ 1 ∷ [])) 0; printed = 2 ∷ 0 ∷ 2 ∷ 0 ∷ [] } ∷
-    record { number = 10; given = loadingOf (snow 1 2 0 0 1 (1 ∷ 1 ∷ 0 ∷ 0 ∷ [])) 0; printed = 4 ∷ 0 ∷ [] } ∷
+    line 8 (withRows (0 ∷ []) ++ withRows (65 ∷ [])) (3 ∷ 0 ∷ 3 ∷ 0 ∷ []) ∷
+    line 9 (withRows [] ++ withRows (1 ∷ 1 ∷ [])) (2 ∷ 0 ∷ 2 ∷ 0 ∷ []) ∷
+    line 10 (withRows (1 ∷ 1 ∷ 0 ∷ 0 ∷ [])) (4 ∷ 0 ∷ []) ∷
     -- 16: a start of 0, above M, not rising, a flow above its range; "after 9"
-    record { number = 11; given = loadingOf (snow 1 2 0 0 1 (1 ∷ 0 ∷ 0 ∷ [])) 0; printed = 16 ∷ 1 ∷ [] } ∷
-    record { number = 12; given = loadingOf (snow 1 2 0 0 1 (2 ∷ 1 ∷ 0 ∷ 5 ∷ 0 ∷ [])) 0; printed = 16 ∷ 2 ∷ [] } ∷
-    record { number = 13; given = loadingOf (snow 1 2 0 0 1 (2 ∷ 2 ∷ 0 ∷ 2 ∷ 0 ∷ [])) 0; printed = 16 ∷ 2 ∷ [] } ∷
-    record { number = 14; given = loadingOf (snow 1 2 0 0 1 (1 ∷ 1 ∷ 100000001 ∷ [])) 0; printed = 16 ∷ 1 ∷ [] } ∷
-    record { number = 15; given = loadingOf (snow 1 2 0 0 3 (1 ∷ 0 ∷ 0 ∷ [])) 0; printed = 9 ∷ 1 ∷ [] } ∷
+    line 11 (withRows (1 ∷ 0 ∷ 0 ∷ [])) (16 ∷ 1 ∷ []) ∷
+    line 12 (withRows (2 ∷ 1 ∷ 0 ∷ 5 ∷ 0 ∷ [])) (16 ∷ 2 ∷ []) ∷
+    line 13 (withRows (2 ∷ 2 ∷ 0 ∷ 2 ∷ 0 ∷ [])) (16 ∷ 2 ∷ []) ∷
+    line 14 (withRows (1 ∷ 1 ∷ 100000001 ∷ [])) (16 ∷ 1 ∷ []) ∷
+    line 15 (loadingOf (snow 1 2 0 0 3 (1 ∷ 0 ∷ 0 ∷ [])) 0) (9 ∷ 1 ∷ []) ∷
     -- the top flow fails 11 at segment 1 and the row 10 at segment 2: "before the next check"; a row that fails 11, and one that fails 12
-    record { number = 16; given = loadingOf (snow 1 2 1002 10000 1 (1 ∷ 1 ∷ 1 ∷ [])) 0; printed = 10 ∷ 2 ∷ [] } ∷
-    record { number = 17; given = loadingOf (snow 1 2 0 0 1 (1 ∷ 1 ∷ 1001 ∷ [])) 0; printed = 11 ∷ 1 ∷ [] } ∷
-    record { number = 18; given = loadingOf (snow 3 1 0 0 1 (2 ∷ 1 ∷ 0 ∷ 2 ∷ 1000 ∷ [])) 0; printed = 12 ∷ 1 ∷ [] } ∷
+    line 16 (loadingOf (snow 1 2 1002 10000 1 (1 ∷ 1 ∷ 1 ∷ [])) 0) (10 ∷ 2 ∷ []) ∷
+    line 17 (withRows (1 ∷ 1 ∷ 1001 ∷ [])) (11 ∷ 1 ∷ []) ∷
+    line 18 (loadingOf (snow 3 1 0 0 1 (2 ∷ 1 ∷ 0 ∷ 2 ∷ 1000 ∷ [])) 0) (12 ∷ 1 ∷ []) ∷
     -- the top flow fails 10 at segment 4, the row at segment 2: "the first flow at fault gives the place"
-    record { number = 19; given = loadingOf (snow 1 4 3 10000 1 (1 ∷ 1 ∷ 1 ∷ [])) 0; printed = 10 ∷ 4 ∷ [] } ∷
+    line 19 (loadingOf (snow 1 4 3 10000 1 (1 ∷ 1 ∷ 1 ∷ [])) 0) (10 ∷ 4 ∷ []) ∷
     -- a step whose old set is short by an entry, and one whose T passes one whole in segment 2
-    record { number = 20; given = steppingFrom (oldSetWith (100000000 ∷ [])); printed = 13 ∷ 0 ∷ [] } ∷
-    record { number = 21; given = steppingFrom (oldSetWith (100000000 ∷ 1000000000 ∷ [])); printed = 14 ∷ 2 ∷ [] } ∷
+    line 20 (steppingFrom (oldSetWith (100000000 ∷ []))) (13 ∷ 0 ∷ []) ∷
+    line 21 (steppingFrom (oldSetWith (100000000 ∷ 1000000000 ∷ []))) (14 ∷ 2 ∷ []) ∷
     -- the step: C', Z', W', p and y
-    record { number = 22; given = stepState 2 oldSet newColumns someState (0 ∷ []) (noWork 2) 1500000 1 .channel; printed = 1454210 ∷ 1568422 ∷ [] } ∷
-    record { number = 23; given = stepState 2 oldSet newColumns someState (0 ∷ []) (noWork 2) 1500000 1 .storage; printed = 2459965 ∷ 737443 ∷ [] } ∷
-    record { number = 24; given = stepState 2 oldSet newColumns someState (0 ∷ []) (noWork 2) 1500000 1 .sediment; printed = 840935 ∷ 1161708 ∷ [] } ∷
-    record { number = 25; given = stepWorking 2 oldSet newColumns someState (0 ∷ []) (noWork 2) 1500000 1 .p; printed = 16346061 ∷ 0 ∷ [] } ∷
-    record { number = 26; given = stepWorking 2 oldSet newColumns someState (0 ∷ []) (noWork 2) 1500000 1 .y; printed = 1430333 ∷ 1568422 ∷ [] } ∷
+    line 22 (someLeft .state .channel) (1454210 ∷ 1568422 ∷ []) ∷
+    line 23 (someLeft .state .storage) (2459965 ∷ 737443 ∷ []) ∷
+    line 24 (someLeft .state .sediment) (840935 ∷ 1161708 ∷ []) ∷
+    line 25 (someLeft .working .p) (16346061 ∷ 0 ∷ []) ∷
+    line 26 (someLeft .working .y) (1430333 ∷ 1568422 ∷ []) ∷
     []
 
 -- A step of the exact river worked out by hand, of one segment whose numbers differ on the two sides, in sixty-fourths of one whole

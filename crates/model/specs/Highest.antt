@@ -5,8 +5,7 @@ use mathlib.Core.List.{List}
 use Prim.Native.Nat.{ℕ, _+_, _-_, _*_, _/_, min}
 use lib.Dec.{ltb}
 use lib.ListN.{length, getD}
-use Rattle.lists.specs.Lists.{tab, over, highestBelow}
-use Rattle.model.specs.Refusals.{Outcome, accepted, refused}
+use Rattle.lists.specs.Lists.{tab, highestBelow}
 
 -- the blocks of n segments: "each sixteen segments begun"
 abbrev pub blockCount : (n : ℕ) → ℕ
@@ -27,8 +26,3 @@ highestOf n channel = tab 0 (blockCount n) (blockHighest n channel)
 -- 13. "want under 13 one highest figure for each sixteen segments begun"
 unfoldable pub blocksFault : (n : ℕ) → (highest : List ℕ) → Bool
 blocksFault n highest = ltb (length highest) (blockCount n)
-
--- the list of highest figures after a call with this answer that leaves these channel figures: "true after every start and step"
-abbrev pub highestAfter : {A : Type 0} → Outcome A → (n : ℕ) → (channel highest : List ℕ) → List ℕ
-highestAfter (accepted v) n channel highest = over (highestOf n channel) highest
-highestAfter (refused number place) n channel highest = highest

@@ -7,7 +7,7 @@ use Rattle.model.specs.Sheet.{otr1}
 use Rattle.model.specs.Flow.{courseOf}
 use Rattle.model.specs.HalfStep.{siteAt, discharge}
 use Rattle.model.specs.Load.{loadColumns}
-use Rattle.model.specs.Bench.{allBytes, zeros, Line}
+use Rattle.model.specs.Bench.{allBytes, zeros, Line, line}
 use Rattle.model.specs.FlowBench.{loadingOf}
 
 -- the fields of a reach with lateral flow, its A and D 1,000
@@ -39,17 +39,17 @@ discharges sheet segments = map (λ i. discharge (siteAt (courseOf sheet 0) i)) 
 unfoldable pub lateralBench : List Line
 lateralBench =
     -- "with two segments a top flow of 68 is refused and 69 passes check 10"; with 22 the first segment has less than half its own outflow
-    record { number = 1; given = loadingOf (slopeWith 68 2) 0 ++ loadingOf (slopeWith 69 2) 0; printed = 10 ∷ 2 ∷ 0 ∷ 0 ∷ [] } ∷
-    record { number = 2; given = loadingOf (slopeWith 22 2) 0 ++ loadingOf (slopeWith 23 2) 0; printed = 10 ∷ 1 ∷ 10 ∷ 2 ∷ [] } ∷
+    line 1 (loadingOf (slopeWith 68 2) 0 ++ loadingOf (slopeWith 69 2) 0) (10 ∷ 2 ∷ 0 ∷ 0 ∷ []) ∷
+    line 2 (loadingOf (slopeWith 22 2) 0 ++ loadingOf (slopeWith 23 2) 0) (10 ∷ 1 ∷ 10 ∷ 2 ∷ []) ∷
     -- "rounded down once": the slope's first segment has 23 less, its sixth 250; with half its own rounded by itself the sixth has 251 less
-    record { number = 3; given = discharges (slopeWith 1000 6) (0 ∷ 5 ∷ []); printed = 977 ∷ 750 ∷ [] } ∷
+    line 3 (discharges (slopeWith 1000 6) (0 ∷ 5 ∷ [])) (977 ∷ 750 ∷ []) ∷
     -- a gain above 0 is rounded down too: 22.725, 68.175 and 113.625 more
-    record { number = 4; given = discharges (sheetWith 1000 1000 1 (reachWith 3 4545 0)) (0 ∷ 1 ∷ 2 ∷ []); printed = 1022 ∷ 1068 ∷ 1113 ∷ [] } ∷
+    line 4 (discharges (sheetWith 1000 1000 1 (reachWith 3 4545 0)) (0 ∷ 1 ∷ 2 ∷ [])) (1022 ∷ 1068 ∷ 1113 ∷ []) ∷
     -- "half its own" by each segment's own reach, − 22.725, − 45.45 + 150.5 and − 45.45 + 301 + 150.5, and not rounded where a reach ends
-    record { number = 5; given = discharges fedBelow (0 ∷ 1 ∷ 2 ∷ []); printed = 977 ∷ 1105 ∷ 1406 ∷ [] } ∷
+    line 5 (discharges fedBelow (0 ∷ 1 ∷ 2 ∷ [])) (977 ∷ 1105 ∷ 1406 ∷ []) ∷
     -- half of an odd sum: (11 − 500) × 409 is − 200,001, and half of that a little more than 1 mL/s less
-    record { number = 6; given = discharges (sheetWith 409 1000 1 (reachWith 1 11 500)) (0 ∷ []); printed = 998 ∷ [] } ∷
+    line 6 (discharges (sheetWith 409 1000 1 (reachWith 1 11 500)) (0 ∷ [])) (998 ∷ []) ∷
     -- "The half-step numbers follow from the new flow": e and g of the slope's two segments with 977 and 931 mL/s
-    record { number = 7; given = loadColumns (slopeWith 1000 2) 0 1 (zeros 2) .numbers .e; printed = 79913235 ∷ 78678432 ∷ [] } ∷
-    record { number = 8; given = loadColumns (slopeWith 1000 2) 0 1 (zeros 2) .numbers .g; printed = 27460947 ∷ 0 ∷ [] } ∷
+    line 7 (loadColumns (slopeWith 1000 2) 0 1 (zeros 2) .numbers .e) (79913235 ∷ 78678432 ∷ []) ∷
+    line 8 (loadColumns (slopeWith 1000 2) 0 1 (zeros 2) .numbers .g) (27460947 ∷ 0 ∷ []) ∷
     []

@@ -9,12 +9,12 @@ use lib.ListN.{length, getD, set}
 use Rattle.lists.specs.Lists.{over, anyShorter, stretch, splice, anyBelow, sumBelow}
 use Rattle.model.specs.Ranges.{_to_, outside, concentration, mostSegments, mostRivers}
 use Rattle.model.specs.Sheet.{Reach, segmentCount}
-use Rattle.model.specs.State.{NumberSet, Columns, State, loadedSegments}
+use Rattle.model.specs.State.{Columns, State, loadedSegments}
 use Rattle.model.specs.Refusals.{Outcome, accepted, refused, Finding, passes, fails, test, outcomeOf}
 use Rattle.model.specs.Load.{riverTests, listTests, Loaded, loaded, columnsAfter, recordsAfter}
-use Rattle.model.specs.Highest.{blocksFault, highestAfter}
+use Rattle.model.specs.Highest.{highestOf, blocksFault}
 use Rattle.model.specs.Search.{searchTests, Searches}
-use Rattle.model.specs.Calls.{River, Working, Reported, startTests, startState, startFigures, stepTests, stepState, workingAfterStep, reportTests, reported}
+use Rattle.model.specs.Calls.{startFigures, Call, callTests, Values, callValues, callLeft, callLent, Result, leftAfter, resultOf}
 
 -- ---- the table and the pool
 
@@ -116,86 +116,30 @@ tableFault table =
 unfoldable pub numberFault : List Slot → (number : ℕ) → Bool
 numberFault table number = outside (1 to mostRivers) number || not (isOpen (slotOf table number)) || tableFault table
 
--- 13. "13 wants 1,024 entries of each shared list"
-unfoldable pub sharedFault : Pool → Bool
-sharedFault pool = anyShorter mostSegments (sharedLists pool)
+-- 13. "13 wants 1,024 entries of each shared list" that is lent
+unfoldable pub sharedFault : (shared : List (List ℕ)) → Bool
+sharedFault shared = anyShorter mostSegments shared
 
--- the tests of a call on an open river that come before document 01's: 18 "before 13", and 13 of the shared lists
-unfoldable pub poolTests : Pool → (number : ℕ) → List Finding
-poolTests pool number = test 18 (numberFault (pool .table) number) ∷ test 13 (sharedFault pool) ∷ []
+-- ---- start, step, report and search: document 01's call on the river's stretch, behind two tests
 
--- the pool after an answer to a call that leaves the number's river in this state
-abbrev pub poolAfter : {A : Type 0} → Outcome A → Pool → (number : ℕ) → State → Pool
-poolAfter (accepted v) pool number state = withState pool number state
-poolAfter (refused refusal place) pool number state = pool
+-- 18 "before 13", and 13 of the shared lists
+unfoldable pub poolTests : (table : List Slot) → (shared : List (List ℕ)) → (number : ℕ) → List Finding
+poolTests table shared number = test 18 (numberFault table number) ∷ test 13 (sharedFault shared) ∷ []
 
--- ---- a start: document 01's on the river's stretch
-
-unfoldable pub poolStartTests : Pool → (number : ℕ) → Columns → (highest : List ℕ) → (u : ℕ) → List Finding
-poolStartTests pool number columns highest u =
-    poolTests pool number ++ startTests (slotOf (pool .table) number .segments) columns (stateOf pool number) highest u
-
-unfoldable pub poolStartAnswer : Pool → (number : ℕ) → Columns → (highest : List ℕ) → (u : ℕ) → Outcome River
-poolStartAnswer pool number columns highest u =
-    outcomeOf (poolStartTests pool number columns highest u) (record { upstream = u; steps = 0 })
-
--- the pool afterwards
-unfoldable pub poolStart : Pool → (number : ℕ) → Columns → (highest : List ℕ) → (u : ℕ) → Pool
-poolStart pool number columns highest u =
-    poolAfter (poolStartAnswer pool number columns highest u) pool number
-    (startState (slotOf (pool .table) number .segments) columns (stateOf pool number) highest u)
-
--- and the highest figures, a list of the river's own whose blocks count from its own first segment
-unfoldable pub poolStartHighest : Pool → (number : ℕ) → Columns → (highest : List ℕ) → (u : ℕ) → List ℕ
-poolStartHighest pool number columns highest u =
+-- the outcome of a start, a step or a report; the highest figures are a list of the river's own, whose blocks count from its own first segment
+unfoldable pub poolResult : Pool → (number : ℕ) → (call : Call) → Result Pool (Values call)
+poolResult pool number call =
     let n = slotOf (pool .table) number .segments in
-    highestAfter (poolStartAnswer pool number columns highest u) n (startState n columns (stateOf pool number) highest u .channel) highest
+    let state = stateOf pool number in
+    let left = callLeft n state call in
+    resultOf (poolTests (pool .table) (sharedLists pool) number ++ callTests n state call) (callValues state call) (callLent pool call)
+    (record { state = withState pool number (left .state); highest = left .highest; working = left .working })
 
--- ---- a step: the same
-
-unfoldable pub poolStepTests : Pool → (number : ℕ) → (old : NumberSet) → (new : Columns) → (highest : List ℕ) → Working → (u′ M : ℕ) → List Finding
-poolStepTests pool number old new highest working u′ M =
-    poolTests pool number ++ stepTests (slotOf (pool .table) number .segments) old new (stateOf pool number) highest working u′ M
-
-unfoldable pub poolStepAnswer : Pool → (number : ℕ) → (old : NumberSet) → (new : Columns) → (highest : List ℕ) → Working → (u′ M : ℕ) → Outcome River
-poolStepAnswer pool number old new highest working u′ M =
-    outcomeOf (poolStepTests pool number old new highest working u′ M) (record { upstream = u′; steps = suc (stateOf pool number .steps) })
-
--- the pool afterwards
-unfoldable pub poolStep : Pool → (number : ℕ) → (old : NumberSet) → (new : Columns) → (highest : List ℕ) → Working → (u′ M : ℕ) → Pool
-poolStep pool number old new highest working u′ M =
-    poolAfter (poolStepAnswer pool number old new highest working u′ M) pool number
-    (stepState (slotOf (pool .table) number .segments) old new (stateOf pool number) highest working u′ M)
-
--- the highest figures
-unfoldable pub poolStepHighest : Pool → (number : ℕ) → (old : NumberSet) → (new : Columns) → (highest : List ℕ) → Working → (u′ M : ℕ) → List ℕ
-poolStepHighest pool number old new highest working u′ M =
-    let n = slotOf (pool .table) number .segments in
-    highestAfter (poolStepAnswer pool number old new highest working u′ M) n (stepState n old new (stateOf pool number) highest working u′ M .channel) highest
-
--- and the working lists
-unfoldable pub poolStepWorking : Pool → (number : ℕ) → (old : NumberSet) → (new : Columns) → (highest : List ℕ) → Working → (u′ M : ℕ) → Working
-poolStepWorking pool number old new highest working u′ M =
-    workingAfterStep (poolStepAnswer pool number old new highest working u′ M) (slotOf (pool .table) number .segments) old new (stateOf pool number) working
-
--- ---- a report: the same; nothing is written
-
-unfoldable pub poolReportTests : Pool → (number : ℕ) → Columns → (segment : ℕ) → List Finding
-poolReportTests pool number columns segment =
-    poolTests pool number ++ reportTests (slotOf (pool .table) number .segments) columns (stateOf pool number) segment
-
-unfoldable pub poolReportAnswer : Pool → (number : ℕ) → Columns → (segment : ℕ) → Outcome Reported
-poolReportAnswer pool number columns segment =
-    outcomeOf (poolReportTests pool number columns segment) (reported columns (stateOf pool number) (segment - 1))
-
--- ---- a search: the same on the river's stretch of the channel list, the one shared list that it is lent
-
--- "in the hut 18 before it"
+-- a search is lent one shared list, that of the channel figures: "in the hut 18 before it"
 unfoldable pub poolSearchTests : (table : List Slot) → (channel : List ℕ) → (number : ℕ) → (highest : List ℕ) → List Finding
 poolSearchTests table channel number highest =
     let x = slotOf table number in
-    test 18 (numberFault table number) ∷ test 13 (anyShorter mostSegments (channel ∷ []))
-    ∷ searchTests (x .segments) (stretch (x .first) (x .segments) channel) highest
+    poolTests table (channel ∷ []) number ++ searchTests (x .segments) (stretch (x .first) (x .segments) channel) highest
 
 -- an answer of it
 abbrev pub PoolSearchAnswer : (table : List Slot) → (channel : List ℕ) → (number : ℕ) → (highest : List ℕ) → (limit : ℕ) → Outcome (Option ℕ) → Type 0
@@ -232,7 +176,7 @@ openTests sheet r records columns pool number highest u =
     riverTests sheet ++
     (test 17 (roomFault (pool .table) number (segmentCount sheet)) ∷ test 18 (tableFault (pool .table)) ∷ []) ++
     listTests sheet r records columns ++
-    (test 13 (sharedFault pool || blocksFault (segmentCount sheet) highest) ∷ test 14 (outside concentration u) ∷ [])
+    (test 13 (sharedFault (sharedLists pool) || blocksFault (segmentCount sheet) highest) ∷ test 14 (outside concentration u) ∷ [])
 
 -- the answer is a loading's
 unfoldable pub openAnswer : List ℕ → (r records : ℕ) → Columns → Pool → (number : ℕ) → (highest : List ℕ) → (u : ℕ) → Outcome Loaded
@@ -251,8 +195,8 @@ openRecords sheet r before columns pool number highest u =
 -- and the highest figures: those of the start figures
 unfoldable pub openHighest : List ℕ → (r records : ℕ) → Columns → Pool → (number : ℕ) → (highest : List ℕ) → (u : ℕ) → List ℕ
 openHighest sheet r records columns pool number highest u =
-    highestAfter (openAnswer sheet r records columns pool number highest u) (segmentCount sheet)
-    (map (λ f. f .c) (map startFigures (loadedSegments sheet r))) highest
+    leftAfter (openAnswer sheet r records columns pool number highest u) highest
+    (over (highestOf (segmentCount sheet) (map (λ f. f .c) (map startFigures (loadedSegments sheet r)))) highest)
 
 -- "a closed river's segments are used again for any river that fits their number, wherever they lie": an accepted opening moves the open
 -- rivers' segments to the front, in their order, and the new river's stand behind them.

@@ -1,14 +1,15 @@
 -- Document 02, 3 in figures: 17 and 18 of tables, the order of the tests, packing, and what calls leave in a pool. A line has what the definitions
 -- give and what was worked out apart from them; proofs/PoolBench shows of the whole table at once that they are the same.
 use mathlib.Core.Bool.{Bool, cond}
-use mathlib.Core.List.{List, [], _∷_, _++_}
+use mathlib.Core.List.{List, [], _∷_, _++_, map}
 use Prim.Native.Nat.{ℕ, _+_}
 use lib.ListN.{replicate, take}
 use Rattle.lists.specs.Lists.{tab}
 use Rattle.model.specs.Sheet.{otr1}
 use Rattle.model.specs.Refusals.{Finding, passes, fails}
-use Rattle.model.specs.Pool.{Slot, vacant, Pool, roomFault, tableFault, packed, openAnswer, poolOpen, poolStartAnswer, poolStart, closeFinding, closedTable}
-use Rattle.model.specs.Bench.{allBytes, zeros, Line}
+use Rattle.model.specs.Calls.{Call, start}
+use Rattle.model.specs.Pool.{Slot, vacant, Pool, roomFault, tableFault, poolResult, packed, openAnswer, poolOpen, closeFinding, closedTable}
+use Rattle.model.specs.Bench.{allBytes, zeros, Line, line}
 use Rattle.model.specs.FlowBench.{refusedAt}
 
 -- a slot with an open river, and one whose river was closed
@@ -41,13 +42,53 @@ threeIn (x ∷ []) = []
 threeIn (x ∷ y ∷ []) = []
 threeIn (x ∷ y ∷ z ∷ more) = figuresIn x ++ figuresIn y ++ figuresIn z
 
+-- 18 of such a table
+unfoldable pub eighteenOf : Slot → Slot → Slot → ℕ
+eighteenOf x y z = ground (tableFault (tableOf x y z))
+
 -- rivers 1 and 3 are open, 3 before 1 in the lists, and 2 was closed
 unfoldable pub twoOpen : List Slot
 twoOpen = tableOf (openAt 6 3) (closedAt 0 12) (openAt 1 2)
 
--- a pool with this table, its lists 10, 11, 12, .. of n entries
+-- river 1 has 1,000 segments, and a closed one had the 20 behind
+unfoldable pub nearlyFull : List Slot
+nearlyFull = tableOf (openAt 0 1000) (closedAt 1000 20) vacant
+
+-- 17 of a number and a segment count there
+unfoldable pub room : (number n : ℕ) → ℕ
+room number n = ground (roomFault nearlyFull number n)
+
+-- rivers 1 and 2 have segment 1 in common
+unfoldable pub overlapping : List Slot
+overlapping = tableOf (openAt 0 2) (openAt 1 1) vacant
+
+-- rivers 1 and 2 overlap, 3 stands apart
+unfoldable pub besideTwo : List Slot
+besideTwo = tableOf (openAt 0 10) (openAt 5 5) (openAt 20 2)
+
+-- river 1 has another mark than 1
+unfoldable pub marked7 : List Slot
+marked7 = tableOf (record { opened = 7; first = 0; segments = 2; upstream = 0; steps = 0 }) vacant vacant
+
+-- 10, 11, 12, ..
+unfoldable pub from10 : (n : ℕ) → List ℕ
+from10 n = tab 10 n (λ i. i)
+
+-- a pool with this table and lists of n entries
 unfoldable pub poolWith : List Slot → (n : ℕ) → Pool
-poolWith table n = record { table = table; channel = tab 10 n (λ i. i); storage = tab 10 n (λ i. i); sediment = tab 10 n (λ i. i) }
+poolWith table n = record { table = table; channel = from10 n; storage = from10 n; sediment = from10 n }
+
+-- that of the two open rivers
+unfoldable pub longPool : Pool
+longPool = poolWith twoOpen 1024
+
+-- the same with lists that are an entry short
+unfoldable pub shortPool : Pool
+shortPool = poolWith twoOpen 1023
+
+-- one whose rivers overlap and whose lists are empty
+unfoldable pub brokenPool : Pool
+brokenPool = poolWith overlapping 0
 
 -- a sheet of this many segments with a dt, its start figure 500
 unfoldable pub sheetWithStart : (dt segments : ℕ) → List ℕ
@@ -58,41 +99,68 @@ sheetWithStart dt segments =
     1 ∷ 0 ∷ 0 ∷
     1 ∷ 1 ∷ [])
 
--- what an opening of that sheet, lent lists of n entries, answers
-unfoldable pub openingOf : (segments n : ℕ) → Pool → (number u : ℕ) → List ℕ
-openingOf segments n pool number u = refusedAt (openAnswer (sheetWithStart 100 segments) 0 1 (zeros n) pool number (0 ∷ []) u)
+-- what an opening of two segments with this dt, lent lists of n entries, answers
+unfoldable pub openingOf : (dt n : ℕ) → Pool → (number u : ℕ) → List ℕ
+openingOf dt n pool number u = refusedAt (openAnswer (sheetWithStart dt 2) 0 1 (zeros n) pool number (0 ∷ []) u)
 
--- the pool that it leaves: three slots of the table, and the first entries of the channel list
-unfoldable pub leftBy : Pool → List ℕ
-leftBy pool = threeIn (pool .table) ++ take 10 (pool .channel)
+-- three slots of the table, and the first entries of the channel list
+unfoldable pub shownOf : Pool → List ℕ
+shownOf pool = threeIn (pool .table) ++ take 10 (pool .channel)
+
+-- those that an opening of river 2 leaves
+unfoldable pub openedWith : (u : ℕ) → List ℕ
+openedWith u = shownOf (poolOpen (sheetWithStart 100 2) 0 1 (zeros 2) longPool 2 (0 ∷ []) u)
+
+-- a start with U 8, lent lists of two entries
+unfoldable pub smallStart : Call
+smallStart = start (zeros 2) (0 ∷ []) 8
+
+-- what it answers
+unfoldable pub startingOf : Pool → (number : ℕ) → List ℕ
+startingOf pool number = refusedAt (poolResult pool number smallStart .answer)
+
+-- what a closing answers
+unfoldable pub closes : List Slot → (number : ℕ) → ℕ
+closes table number = found (closeFinding table number)
 
 -- the table
 unfoldable pub poolBench : List Line
 poolBench =
     -- 17: "the new river's segments and those of the open ones exceed 1,024 together", a closed one's do not count; a number that is open; 0 and 9
-    record { number = 1; given = (let t = tableOf (openAt 0 1000) (closedAt 1000 20) vacant in ground (roomFault t 2 24) ∷ ground (roomFault t 2 25) ∷ ground (roomFault t 8 24) ∷ ground (roomFault t 1 1) ∷ ground (roomFault t 0 1) ∷ ground (roomFault t 9 1) ∷ []); printed = 0 ∷ 1 ∷ 0 ∷ 1 ∷ 1 ∷ 1 ∷ [] } ∷
+    line 1 (room 2 24 ∷ room 2 25 ∷ room 8 24 ∷ room 1 1 ∷ room 0 1 ∷ room 9 1 ∷ []) (0 ∷ 1 ∷ 0 ∷ 1 ∷ 1 ∷ 1 ∷ []) ∷
     -- 18: rivers that touch, and that have one segment in common, in either order; one that ends at 1,024, and one that passes it; a closed one
-    record { number = 2; given = ground (tableFault (tableOf (openAt 0 10) (openAt 10 5) vacant)) ∷ ground (tableFault (tableOf (openAt 0 11) (openAt 10 5) vacant)) ∷ ground (tableFault (tableOf (openAt 20 5) (openAt 4 3) (openAt 0 5))) ∷ []; printed = 0 ∷ 1 ∷ 1 ∷ [] } ∷
-    record { number = 3; given = ground (tableFault (tableOf (openAt 1000 24) vacant vacant)) ∷ ground (tableFault (tableOf (openAt 1000 25) vacant vacant)) ∷ ground (tableFault (tableOf (closedAt 1000 25) (openAt 1000 24) vacant)) ∷ []; printed = 0 ∷ 1 ∷ 0 ∷ [] } ∷
+    line 2
+    (eighteenOf (openAt 0 10) (openAt 10 5) vacant ∷
+    eighteenOf (openAt 0 11) (openAt 10 5) vacant ∷
+    eighteenOf (openAt 20 5) (openAt 4 3) (openAt 0 5) ∷ [])
+    (0 ∷ 1 ∷ 1 ∷ []) ∷
+    line 3
+    (eighteenOf (openAt 1000 24) vacant vacant ∷
+    eighteenOf (openAt 1000 25) vacant vacant ∷
+    eighteenOf (closedAt 1000 25) (openAt 1000 24) vacant ∷ [])
+    (0 ∷ 1 ∷ 0 ∷ []) ∷
     -- a river of no segment has none in common with another
-    record { number = 4; given = ground (tableFault (tableOf (openAt 0 10) (openAt 5 0) vacant)) ∷ []; printed = 0 ∷ [] } ∷
+    line 4 (eighteenOf (openAt 0 10) (openAt 5 0) vacant ∷ []) (0 ∷ []) ∷
     -- packing: the segments 1 and 2 of river 3, then 6 to 8 of river 1, then the new river's
-    record { number = 5; given = packed twoOpen (100 ∷ 101 ∷ []) (tab 10 12 (λ i. i)); printed = 11 ∷ 12 ∷ 16 ∷ 17 ∷ 18 ∷ 100 ∷ 101 ∷ 17 ∷ 18 ∷ 19 ∷ 20 ∷ 21 ∷ [] } ∷
+    line 5 (packed twoOpen (100 ∷ 101 ∷ []) (from10 12)) (11 ∷ 12 ∷ 16 ∷ 17 ∷ 18 ∷ 100 ∷ 101 ∷ 17 ∷ 18 ∷ 19 ∷ 20 ∷ 21 ∷ []) ∷
     -- the order of the tests: 12 of the sheet before 17; 17 before 18 and 13; 18 before 13; 13 of the fourteen lists and of the shared ones before 14; 14
-    record { number = 6; given = refusedAt (openAnswer (sheetWithStart 3600 2) 0 1 (zeros 2) (poolWith twoOpen 1024) 9 (0 ∷ []) 0) ++ openingOf 2 0 (poolWith (tableOf (openAt 0 2) (openAt 1 1) vacant) 0) 1 0; printed = 12 ∷ 1 ∷ 17 ∷ 0 ∷ [] } ∷
-    record { number = 7; given = openingOf 2 0 (poolWith (tableOf (openAt 0 2) (openAt 1 1) vacant) 0) 3 0 ++ openingOf 2 1 (poolWith twoOpen 1024) 2 1000000001; printed = 18 ∷ 0 ∷ 13 ∷ 0 ∷ [] } ∷
-    record { number = 8; given = openingOf 2 2 (poolWith twoOpen 1023) 2 1000000001 ++ openingOf 2 2 (poolWith twoOpen 1024) 2 1000000001; printed = 13 ∷ 0 ∷ 14 ∷ 0 ∷ [] } ∷
-    record { number = 9; given = openingOf 2 2 (poolWith twoOpen 1024) 2 1000000000; printed = 0 ∷ 0 ∷ [] } ∷
+    line 6 (openingOf 3600 2 longPool 9 0 ++ openingOf 100 0 brokenPool 1 0) (12 ∷ 1 ∷ 17 ∷ 0 ∷ []) ∷
+    line 7 (openingOf 100 0 brokenPool 3 0 ++ openingOf 100 1 longPool 2 1000000001) (18 ∷ 0 ∷ 13 ∷ 0 ∷ []) ∷
+    line 8 (openingOf 100 2 shortPool 2 1000000001 ++ openingOf 100 2 longPool 2 1000000001) (13 ∷ 0 ∷ 14 ∷ 0 ∷ []) ∷
+    line 9 (openingOf 100 2 longPool 2 1000000000) (0 ∷ 0 ∷ []) ∷
     -- "a closed river's segments are used again": what the accepted opening leaves; and a refused one, which leaves all as it was
-    record { number = 10; given = leftBy (poolOpen (sheetWithStart 100 2) 0 1 (zeros 2) (poolWith twoOpen 1024) 2 (0 ∷ []) 9); printed = 1 ∷ 2 ∷ 3 ∷ 7 ∷ 3 ∷ 1 ∷ 5 ∷ 2 ∷ 9 ∷ 0 ∷ 1 ∷ 0 ∷ 2 ∷ 7 ∷ 3 ∷ 11 ∷ 12 ∷ 16 ∷ 17 ∷ 18 ∷ 500 ∷ 500 ∷ 17 ∷ 18 ∷ 19 ∷ [] } ∷
-    record { number = 11; given = leftBy (poolOpen (sheetWithStart 100 2) 0 1 (zeros 2) (poolWith twoOpen 1024) 2 (0 ∷ []) 1000000001); printed = 1 ∷ 6 ∷ 3 ∷ 7 ∷ 3 ∷ 0 ∷ 0 ∷ 12 ∷ 7 ∷ 3 ∷ 1 ∷ 1 ∷ 2 ∷ 7 ∷ 3 ∷ 10 ∷ 11 ∷ 12 ∷ 13 ∷ 14 ∷ 15 ∷ 16 ∷ 17 ∷ 18 ∷ 19 ∷ [] } ∷
+    line 10 (openedWith 9)
+    (1 ∷ 2 ∷ 3 ∷ 7 ∷ 3 ∷ 1 ∷ 5 ∷ 2 ∷ 9 ∷ 0 ∷ 1 ∷ 0 ∷ 2 ∷ 7 ∷ 3 ∷ 11 ∷ 12 ∷ 16 ∷ 17 ∷ 18 ∷ 500 ∷ 500 ∷ 17 ∷ 18 ∷ 19 ∷ []) ∷
+    line 11 (openedWith 1000000001)
+    (1 ∷ 6 ∷ 3 ∷ 7 ∷ 3 ∷ 0 ∷ 0 ∷ 12 ∷ 7 ∷ 3 ∷ 1 ∷ 1 ∷ 2 ∷ 7 ∷ 3 ∷ 10 ∷ 11 ∷ 12 ∷ 13 ∷ 14 ∷ 15 ∷ 16 ∷ 17 ∷ 18 ∷ 19 ∷ []) ∷
     -- a start of river 3 writes its own stretch and its slot, and nothing else; 18 of river 2, which is closed, before 13 of the shared lists
-    record { number = 12; given = leftBy (poolStart (poolWith twoOpen 1024) 3 (zeros 2) (0 ∷ []) 8); printed = 1 ∷ 6 ∷ 3 ∷ 7 ∷ 3 ∷ 0 ∷ 0 ∷ 12 ∷ 7 ∷ 3 ∷ 1 ∷ 1 ∷ 2 ∷ 8 ∷ 0 ∷ 10 ∷ 0 ∷ 0 ∷ 13 ∷ 14 ∷ 15 ∷ 16 ∷ 17 ∷ 18 ∷ 19 ∷ [] } ∷
-    record { number = 13; given = refusedAt (poolStartAnswer (poolWith twoOpen 1023) 2 (zeros 2) (0 ∷ []) 8) ++ refusedAt (poolStartAnswer (poolWith twoOpen 1023) 3 (zeros 2) (0 ∷ []) 8); printed = 18 ∷ 0 ∷ 13 ∷ 0 ∷ [] } ∷
+    line 12 (shownOf (poolResult longPool 3 smallStart .left .state))
+    (1 ∷ 6 ∷ 3 ∷ 7 ∷ 3 ∷ 0 ∷ 0 ∷ 12 ∷ 7 ∷ 3 ∷ 1 ∷ 1 ∷ 2 ∷ 8 ∷ 0 ∷ 10 ∷ 0 ∷ 0 ∷ 13 ∷ 14 ∷ 15 ∷ 16 ∷ 17 ∷ 18 ∷ 19 ∷ []) ∷
+    line 13 (startingOf shortPool 2 ++ startingOf shortPool 3) (18 ∷ 0 ∷ 13 ∷ 0 ∷ []) ∷
     -- 18 of an open river where two others overlap, before all else; a mark that is not 1 is an open river's
-    record { number = 14; given = (let t = tableOf (openAt 0 10) (openAt 5 5) (openAt 20 2) in found (closeFinding t 3) ∷ refusedAt (poolStartAnswer (poolWith t 0) 3 (zeros 0) [] 1000000001)); printed = 18 ∷ 18 ∷ 0 ∷ [] } ∷
-    record { number = 15; given = (let t = tableOf (record { opened = 7; first = 0; segments = 2; upstream = 0; steps = 0 }) vacant vacant in found (closeFinding t 1) ∷ ground (roomFault t 1 1) ∷ ground (roomFault t 2 1023) ∷ []); printed = 0 ∷ 1 ∷ 1 ∷ [] } ∷
+    line 14 (closes besideTwo 3 ∷ refusedAt (poolResult (poolWith besideTwo 0) 3 (start (zeros 0) [] 1000000001) .answer)) (18 ∷ 18 ∷ 0 ∷ []) ∷
+    line 15 (closes marked7 1 ∷ ground (roomFault marked7 1 1) ∷ ground (roomFault marked7 2 1023) ∷ []) (0 ∷ 1 ∷ 1 ∷ []) ∷
     -- a closing: the mark alone; of a river that is not open, and of numbers that none has, 18
-    record { number = 16; given = threeIn (closedTable twoOpen 3); printed = 1 ∷ 6 ∷ 3 ∷ 7 ∷ 3 ∷ 0 ∷ 0 ∷ 12 ∷ 7 ∷ 3 ∷ 0 ∷ 1 ∷ 2 ∷ 7 ∷ 3 ∷ [] } ∷
-    record { number = 17; given = found (closeFinding twoOpen 3) ∷ found (closeFinding twoOpen 2) ∷ found (closeFinding twoOpen 0) ∷ found (closeFinding twoOpen 9) ∷ []; printed = 0 ∷ 18 ∷ 18 ∷ 18 ∷ [] } ∷
+    line 16 (threeIn (closedTable twoOpen 3)) (1 ∷ 6 ∷ 3 ∷ 7 ∷ 3 ∷ 0 ∷ 0 ∷ 12 ∷ 7 ∷ 3 ∷ 0 ∷ 1 ∷ 2 ∷ 7 ∷ 3 ∷ []) ∷
+    line 17 (map (closes twoOpen) (3 ∷ 2 ∷ 0 ∷ 9 ∷ [])) (0 ∷ 18 ∷ 18 ∷ 18 ∷ []) ∷
     []

@@ -12,26 +12,20 @@ use Rattle.lists.specs.Lists.{tab}
 use Rattle.model.specs.Ranges.{mostRivers}
 use Rattle.model.specs.Sheet.{flowRowCount, segmentCount}
 use Rattle.model.specs.Flow.{flowInForce}
-use Rattle.model.specs.State.{NumberSet, Columns, State}
+use Rattle.model.specs.State.{Columns, State}
 use Rattle.model.specs.Refusals.{nothing, Outcome, accepted, refused, passes, fails}
 use Rattle.model.specs.Load.{Loaded, loadAnswer, loadColumns}
-use Rattle.model.specs.Calls.{Working, startAnswer, startHighest, stepAnswer, stepHighest, stepWorking, reportAnswer}
+use Rattle.model.specs.Calls.{Call, Result, result}
 use Rattle.model.specs.Search.{SearchAnswer}
-use Rattle.model.specs.Runs.{start, after, run, PairAsLoaded, Fed}
+use Rattle.model.specs.Runs.{OwnLists, after, run, PairAsLoaded, Fed}
 use Rattle.model.specs.Claim.{Holds, LeftFor}
-use Rattle.model.specs.Pool.{isOpen, vacant, slotAt, slotOf, Pool, stateOf, roomFault, openAnswer, openColumns, poolStartAnswer, poolStartHighest, poolStepAnswer, poolStepHighest, poolStepWorking, poolReportAnswer, PoolSearchAnswer, closeFinding}
-use Rattle.model.specs.PoolRuns.{PoolCall, runPool, Own, ownCalls, ownSince}
+use Rattle.model.specs.Pool.{isOpen, vacant, slotAt, slotOf, Pool, stateOf, roomFault, openAnswer, openColumns, poolResult, PoolSearchAnswer, closeFinding}
+use Rattle.model.specs.PoolRuns.{PoolCall, runPool, Own, ownStart, ownCalls, ownSince}
 
 -- "Begun with none open": a table of eight slots, none of them open, and lists of any length and content
 pub record NoneOpen (pool : Pool) : Type 0 where
   pub slots : length (pool .table) ≡ mostRivers
   pub closed : (i : ℕ) → i < mostRivers → isOpen (slotAt (pool .table) i) ≡ false
-
--- the lists of a river that has them alone: n entries each, of any content
-pub record OwnLists (n : ℕ) (state : State) : Type 0 where
-  pub channel : length (state .channel) ≡ n
-  pub storage : length (state .storage) ≡ n
-  pub sediment : length (state .sediment) ≡ n
 
 -- the pool with no river open
 abbrev pub vacated : Pool → Pool
@@ -50,48 +44,40 @@ OpensAlone pool number =
 -- a river that is not open: its other calls are refused with 18
 pub record NotOpen (pool : Pool) (number : ℕ) : Type 0 where
   pub closed : 1 ≤ number → number ≤ mostRivers → isOpen (slotOf (pool .table) number) ≡ false
-  pub starts : (columns : Columns) (highest : List ℕ) (u : ℕ) → poolStartAnswer pool number columns highest u ≡ refused 18 nothing
-  pub steps : (old : NumberSet) (new : Columns) (highest : List ℕ) (working : Working) (u′ M : ℕ) →
-      poolStepAnswer pool number old new highest working u′ M ≡ refused 18 nothing
-  pub reports : (columns : Columns) (segment : ℕ) → poolReportAnswer pool number columns segment ≡ refused 18 nothing
+  pub calls : (call : Call) → poolResult pool number call .answer ≡ refused 18 nothing
   pub searches : (highest : List ℕ) (limit : ℕ) (answer : Outcome (Option ℕ)) →
       PoolSearchAnswer (pool .table) (pool .channel) number highest limit answer → answer ≡ refused 18 nothing
   pub closes : closeFinding (pool .table) number ≡ fails 18 nothing
+
+-- two calls answer the same, and leave the same highest figures and working lists
+pub record Alike {S T A : Type 0} (x : Result S A) (y : Result T A) : Type 0 where
+  pub answer : x .answer ≡ y .answer
+  pub highest : x .left .highest ≡ y .left .highest
+  pub working : x .left .working ≡ y .left .working
 
 -- an open river with these own calls, beside the same calls made alone, from lists of any content
 pub record AsAlone (pool : Pool) (number : ℕ) (own : Own) (before : State) : Type 0 where
   -- "an open river shows the figures its accepted calls alone would give", with U and the count of steps done
   pub figures : stateOf pool number ≡ run before (ownCalls own)
   -- its calls get the answers that they would get alone, and leave the highest figures and a step's working lists as they would
-  pub starts : (columns : Columns) (highest : List ℕ) (u : ℕ) →
-      poolStartAnswer pool number columns highest u ≡ startAnswer (own .lent .count) columns (run before (ownCalls own)) highest u
-  pub startsHighest : (columns : Columns) (highest : List ℕ) (u : ℕ) →
-      poolStartHighest pool number columns highest u ≡ startHighest (own .lent .count) columns (run before (ownCalls own)) highest u
-  pub steps : (old : NumberSet) (new : Columns) (highest : List ℕ) (working : Working) (u′ M : ℕ) →
-      poolStepAnswer pool number old new highest working u′ M ≡ stepAnswer (own .lent .count) old new (run before (ownCalls own)) highest working u′ M
-  pub stepsHighest : (old : NumberSet) (new : Columns) (highest : List ℕ) (working : Working) (u′ M : ℕ) →
-      poolStepHighest pool number old new highest working u′ M ≡ stepHighest (own .lent .count) old new (run before (ownCalls own)) highest working u′ M
-  pub works : (old : NumberSet) (new : Columns) (highest : List ℕ) (working : Working) (u′ M : ℕ) →
-      poolStepWorking pool number old new highest working u′ M ≡ stepWorking (own .lent .count) old new (run before (ownCalls own)) highest working u′ M
-  pub reports : (columns : Columns) (segment : ℕ) →
-      poolReportAnswer pool number columns segment ≡ reportAnswer (own .lent .count) columns (run before (ownCalls own)) segment
+  pub calls : (call : Call) → Alike (poolResult pool number call) (result (own .count) (run before (ownCalls own)) call)
   -- a search may give the answers that it may give alone, and no other
   pub searches : (highest : List ℕ) (limit : ℕ) (answer : Outcome (Option ℕ)) → PoolSearchAnswer (pool .table) (pool .channel) number highest limit answer →
-      SearchAnswer (own .lent .count) (run before (ownCalls own) .channel) highest limit answer
+      SearchAnswer (own .count) (run before (ownCalls own) .channel) highest limit answer
   pub searchesAll : (highest : List ℕ) (limit : ℕ) (answer : Outcome (Option ℕ)) →
-      SearchAnswer (own .lent .count) (run before (ownCalls own) .channel) highest limit answer →
+      SearchAnswer (own .count) (run before (ownCalls own) .channel) highest limit answer →
       PoolSearchAnswer (pool .table) (pool .channel) number highest limit answer
   -- "demand 3 holds of each for its own calls", where each accepted call since the opening is lent what a loading of the sheet gives for it
-  pub demand3 : Fed (own .sheet) (after before (start (own .lent) (own .highest) (own .u))) (own .since) → Holds (own .sheet) before (ownCalls own)
+  pub demand3 : Fed (own .sheet) (after before (ownStart own)) (own .since) → Holds (own .sheet) before (ownCalls own)
 
 -- an open river
 pub record Opened (pool : Pool) (number : ℕ) (own : Own) : Type 0 where
   pub from : 1 ≤ number
   pub to : number ≤ mostRivers
   pub opened : isOpen (slotOf (pool .table) number) ≡ true
-  pub segments : slotOf (pool .table) number .segments ≡ own .lent .count
+  pub segments : slotOf (pool .table) number .segments ≡ own .count
   pub closes : closeFinding (pool .table) number ≡ passes
-  pub alone : (before : State) → OwnLists (own .lent .count) before → AsAlone pool number own before
+  pub alone : (before : State) → OwnLists (own .count) before → AsAlone pool number own before
 
 -- the river with this number, by its own calls
 abbrev pub Shown : Pool → (number : ℕ) → Option Own → Type 0
@@ -120,5 +106,5 @@ pub record OpenedLists : Type 0 where
       openAnswer sheet r records columns pool number highest u ≡ accepted v → loadAnswer sheet r′ records′ columns′ ≡ accepted v′ → (n : ℕ) →
       (openAnswer sheet (flowInForce sheet n) records columns pool number highest u ≡ accepted v)
       × (loadAnswer sheet (flowInForce sheet (suc n)) records′ columns′ ≡ accepted v′)
-      × PairAsLoaded sheet n (openColumns sheet (flowInForce sheet n) records columns pool number highest u .numbers)
-      (record { count = v′ .segments; columns = loadColumns sheet (flowInForce sheet (suc n)) records′ columns′ })
+      × PairAsLoaded sheet n (v′ .segments) (openColumns sheet (flowInForce sheet n) records columns pool number highest u .numbers)
+      (loadColumns sheet (flowInForce sheet (suc n)) records′ columns′)

@@ -5,42 +5,34 @@ use mathlib.Core.Option.{Option, none, some}
 use Prim.Native.Nat.{ℕ}
 use lib.Dec.{eqb}
 use Rattle.model.specs.Sheet.{segmentCount}
-use Rattle.model.specs.State.{NumberSet, Columns, loadedSegments, writeSegments}
+use Rattle.model.specs.State.{Columns, loadedSegments, writeSegments}
 use Rattle.model.specs.Refusals.{isAccepted, isPassed}
-use Rattle.model.specs.Calls.{Working}
-use Rattle.model.specs.Runs.{Lent, Call, start, step, report}
-use Rattle.model.specs.Pool.{Pool, slotOf, openAnswer, poolOpen, openHighest, poolStartAnswer, poolStart, poolStartHighest, poolStepAnswer, poolStep, poolStepHighest, poolReportAnswer, closeFinding, closedTable}
+use Rattle.model.specs.Calls.{Call, start, leavesHighest}
+use Rattle.model.specs.Runs.{LoneCall, alone}
+use Rattle.model.specs.Pool.{Pool, slotOf, poolResult, openAnswer, poolOpen, openHighest, closeFinding, closedTable}
 
 -- a call names a river by its number; what it is lent beside the pool is its own, of any content
 pub data PoolCall : Type 0 where
   opening : (number : ℕ) → (sheet : List ℕ) → (r records : ℕ) → Columns → (highest : List ℕ) → (u : ℕ) → PoolCall
-  starting : (number : ℕ) → Columns → (highest : List ℕ) → (u : ℕ) → PoolCall
-  stepping : (number : ℕ) → (old : NumberSet) → (new : Columns) → (highest : List ℕ) → Working → (u′ M : ℕ) → PoolCall
-  reporting : (number : ℕ) → Columns → (segment : ℕ) → PoolCall
+  onRiver : (number : ℕ) → Call → PoolCall
   closing : (number : ℕ) → PoolCall
 
 -- the number
 abbrev pub named : PoolCall → ℕ
 named (opening number sheet r records columns highest u) = number
-named (starting number columns highest u) = number
-named (stepping number old new highest working u′ M) = number
-named (reporting number columns segment) = number
+named (onRiver number call) = number
 named (closing number) = number
 
 -- the call is accepted
 unfoldable pub poolAccepts : Pool → PoolCall → Bool
 poolAccepts pool (opening number sheet r records columns highest u) = isAccepted (openAnswer sheet r records columns pool number highest u)
-poolAccepts pool (starting number columns highest u) = isAccepted (poolStartAnswer pool number columns highest u)
-poolAccepts pool (stepping number old new highest working u′ M) = isAccepted (poolStepAnswer pool number old new highest working u′ M)
-poolAccepts pool (reporting number columns segment) = isAccepted (poolReportAnswer pool number columns segment)
+poolAccepts pool (onRiver number call) = isAccepted (poolResult pool number call .answer)
 poolAccepts pool (closing number) = isPassed (closeFinding (pool .table) number)
 
 -- the pool that a call leaves
 unfoldable pub afterCall : Pool → PoolCall → Pool
 afterCall pool (opening number sheet r records columns highest u) = poolOpen sheet r records columns pool number highest u
-afterCall pool (starting number columns highest u) = poolStart pool number columns highest u
-afterCall pool (stepping number old new highest working u′ M) = poolStep pool number old new highest working u′ M
-afterCall pool (reporting number columns segment) = pool
+afterCall pool (onRiver number call) = poolResult pool number call .left .state
 afterCall pool (closing number) = record {
   table = closedTable (pool .table) number;
   channel = pool .channel;
@@ -57,34 +49,43 @@ runPool pool (call ∷ calls) = runPool (afterCall pool call) calls
 -- since, as document 01's calls on lists that are the river's alone
 pub record Own : Type 0 where
   pub sheet : List ℕ
-  pub lent : Lent
+  pub count : ℕ
+  pub columns : Columns
   pub highest : List ℕ
   pub u : ℕ
-  pub since : List Call
+  pub since : List LoneCall
+
+-- that start
+abbrev pub ownStart : Own → LoneCall
+ownStart own = alone (own .count) (start (own .columns) (own .highest) (own .u))
 
 -- all of them
-abbrev pub ownCalls : Own → List Call
-ownCalls own = start (own .lent) (own .highest) (own .u) ∷ own .since
+abbrev pub ownCalls : Own → List LoneCall
+ownCalls own = ownStart own ∷ own .since
 
 -- with one more
-abbrev pub withCall : Call → Option Own → Option Own
+abbrev pub withCall : LoneCall → Option Own → Option Own
 withCall call none = none
-withCall call (some own) = some (record { sheet = own .sheet; lent = own .lent; highest = own .highest; u = own .u; since = own .since ++ (call ∷ []) })
+withCall call (some own) = some (record {
+  sheet = own .sheet;
+  count = own .count;
+  columns = own .columns;
+  highest = own .highest;
+  u = own .u;
+  since = own .since ++ (call ∷ []);
+})
 
 -- what an accepted call that names the river makes of them; none where it is not open
 abbrev pub ownAfter : Pool → PoolCall → Option Own → Option Own
 ownAfter pool (opening number sheet r records columns highest u) own = some (record {
   sheet = sheet;
-  lent = record { count = segmentCount sheet; columns = writeSegments (loadedSegments sheet r) columns };
+  count = segmentCount sheet;
+  columns = writeSegments (loadedSegments sheet r) columns;
   highest = highest;
   u = u;
   since = [];
 })
-ownAfter pool (starting number columns highest u) own = withCall (start (record { count = slotOf (pool .table) number .segments; columns = columns }) highest u) own
-ownAfter pool (stepping number old new highest working u′ M) own =
-    withCall (step old (record { count = slotOf (pool .table) number .segments; columns = new }) highest working u′ M) own
-ownAfter pool (reporting number columns segment) own =
-    withCall (report (record { count = slotOf (pool .table) number .segments; columns = columns }) segment) own
+ownAfter pool (onRiver number call) own = withCall (alone (slotOf (pool .table) number .segments) call) own
 ownAfter pool (closing number) own = none
 
 -- the own calls of the river with this number after a list of calls, of all rivers, from a pool; `own` are those before
@@ -97,9 +98,7 @@ ownSince number pool (call ∷ calls) own =
 -- the highest figures that an accepted call leaves its river; a report and a closing leave them as they were, which is `highest`
 abbrev pub highestLeft : Pool → PoolCall → (highest : List ℕ) → List ℕ
 highestLeft pool (opening number sheet r records columns lent u) highest = openHighest sheet r records columns pool number lent u
-highestLeft pool (starting number columns lent u) highest = poolStartHighest pool number columns lent u
-highestLeft pool (stepping number old new lent working u′ M) highest = poolStepHighest pool number old new lent working u′ M
-highestLeft pool (reporting number columns segment) highest = highest
+highestLeft pool (onRiver number call) highest = cond (leavesHighest call) (poolResult pool number call .left .highest) highest
 highestLeft pool (closing number) highest = highest
 
 -- those of the river with this number after a list of calls, of all rivers, from a pool: as its latest accepted opening, start or step left them

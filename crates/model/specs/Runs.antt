@@ -1,9 +1,11 @@
 -- Document 01, "The run and its exact river", with the flow rows of document 02, 1: lists of calls, and the exact river that is fed them.
 use mathlib.Core.Path.{_≡_}
-use mathlib.Core.Bool.{Bool, true, false}
+use mathlib.Core.Bool.{Bool, true, false, cond}
 use mathlib.Core.List.{List, [], _∷_, map}
+use mathlib.Core.Option.{Option, some}
 use Prim.Native.Nat.{ℕ, suc, _≤_}
 use lib.Dec.{T}
+use lib.ListN.{length}
 use Rattle.lists.specs.Lists.{tab}
 use Rattle.fractions.specs.Fractions.{whole}
 use Rattle.model.specs.Sheet.{segmentCount, flowRowCount}
@@ -13,68 +15,76 @@ use Rattle.model.specs.Equations.{Pair}
 use Rattle.model.specs.ExactRiver.{ExactFigures, ExactStep}
 use Rattle.model.specs.State.{NumberSet, numbersOf, Columns, segmentsOf, loadedSegments, loadedNumbers, State}
 use Rattle.model.specs.Refusals.{isAccepted}
-use Rattle.model.specs.Calls.{Working, startAnswer, startState, stepAnswer, stepState, reportAnswer}
+use Rattle.model.specs.Calls.{Call, start, step, report, result, leavesHighest}
 
--- what a call is lent beside the state: a segment count and the fourteen lists
-pub record Lent : Type 0 where
-  pub count : ℕ
-  pub columns : Columns
+-- a call on a river that has its lists alone, which is handed their segment count
+pub data LoneCall : Type 0 where
+  alone : (n : ℕ) → Call → LoneCall
 
--- "A start is also handed U at step 0; a step U' and M; a report a segment"; start and step are also lent highest figures, a step its old set
--- and working lists
-pub data Call : Type 0 where
-  start : Lent → (highest : List ℕ) → (u : ℕ) → Call
-  step : (old : NumberSet) → Lent → (highest : List ℕ) → Working → (u′ M : ℕ) → Call
-  report : Lent → (number : ℕ) → Call
+-- the lists of a river that has them alone: n entries each, of any content
+pub record OwnLists (n : ℕ) (state : State) : Type 0 where
+  pub channel : length (state .channel) ≡ n
+  pub storage : length (state .storage) ≡ n
+  pub sediment : length (state .sediment) ≡ n
 
 -- the call is accepted
-unfoldable pub accepts : State → Call → Bool
-accepts state (start lent highest u) = isAccepted (startAnswer (lent .count) (lent .columns) state highest u)
-accepts state (step old lent highest working u′ M) = isAccepted (stepAnswer (lent .count) old (lent .columns) state highest working u′ M)
-accepts state (report lent number) = isAccepted (reportAnswer (lent .count) (lent .columns) state number)
+unfoldable pub accepts : State → LoneCall → Bool
+accepts state (alone n call) = isAccepted (result n state call .answer)
 
--- the state that a call leaves; "A report or a refused call leaves the state as it was."
-unfoldable pub after : State → Call → State
-after state (start lent highest u) = startState (lent .count) (lent .columns) state highest u
-after state (step old lent highest working u′ M) = stepState (lent .count) old (lent .columns) state highest working u′ M
-after state (report lent number) = state
+-- the state that it leaves; "A report or a refused call leaves the state as it was."
+unfoldable pub after : State → LoneCall → State
+after state (alone n call) = result n state call .left .state
 
 -- "Every call is lent the state as the call before left it"
-unfoldable pub run : State → List Call → State
+unfoldable pub run : State → List LoneCall → State
 run state [] = state
 run state (call ∷ calls) = run (after state call) calls
 
+-- the highest figures of a river of this many segments
+pub record HighestFigures : Type 0 where
+  pub count : ℕ
+  pub highest : List ℕ
+
+-- those after an accepted call in this state: a start's or a step's own; a report leaves those before it
+abbrev pub leaves : State → LoneCall → (before : Option HighestFigures) → Option HighestFigures
+leaves state (alone n call) before = cond (leavesHighest call) (some (record { count = n; highest = result n state call .left .highest })) before
+
+-- those that the latest accepted start or step of a list of calls from a state left; `before` are those before the list
+unfoldable pub leftSince : State → List LoneCall → (before : Option HighestFigures) → Option HighestFigures
+leftSince state [] before = before
+leftSince state (call ∷ calls) before = leftSince (after state call) calls (cond (accepts state call) (leaves state call before) before)
+
 -- "the half-step numbers, CL, CB, Kd and start figures as loaded from the sheet, with its segment count", for flow r
-pub record LoadedFor (sheet : List ℕ) (r : ℕ) (lent : Lent) : Type 0 where
-  pub count : lent .count ≡ segmentCount sheet
-  pub segments : segmentsOf (lent .count) (lent .columns) ≡ loadedSegments sheet r
+pub record LoadedFor (sheet : List ℕ) (r n : ℕ) (columns : Columns) : Type 0 where
+  pub count : n ≡ segmentCount sheet
+  pub segments : segmentsOf n columns ≡ loadedSegments sheet r
 
 -- a set that is lent to a river of n segments is flow r's, as loaded
 abbrev pub SetFor : (sheet : List ℕ) → (r n : ℕ) → NumberSet → Type 0
 SetFor sheet r n set = numbersOf n set ≡ loadedNumbers sheet r
 
 -- a start and a report are lent one set, which may be that of any flow of the sheet
-pub record AsLoaded (sheet : List ℕ) (lent : Lent) : Type 0 where
+pub record AsLoaded (sheet : List ℕ) (n : ℕ) (columns : Columns) : Type 0 where
   pub flow : ℕ
   pub known : flow ≤ flowRowCount sheet
-  pub lists : LoadedFor sheet flow lent
+  pub lists : LoadedFor sheet flow n columns
 
 -- "the accepted step that raises the count from n to n + 1 is lent the pair that the sheet's rows give for step n + 1": on its old side
 -- the set of the flow in force at step n, on its new side that of the flow in force at step n + 1
-pub record PairAsLoaded (sheet : List ℕ) (n : ℕ) (old : NumberSet) (lent : Lent) : Type 0 where
-  pub before : SetFor sheet (flowInForce sheet n) (lent .count) old
-  pub after : LoadedFor sheet (flowInForce sheet (suc n)) lent
+pub record PairAsLoaded (sheet : List ℕ) (n segments : ℕ) (old : NumberSet) (new : Columns) : Type 0 where
+  pub before : SetFor sheet (flowInForce sheet n) segments old
+  pub after : LoadedFor sheet (flowInForce sheet (suc n)) segments new
 
 -- what a call of the run is lent in this state
-abbrev pub LentFrom : List ℕ → State → Call → Type 0
-LentFrom sheet state (start lent highest u) = AsLoaded sheet lent
-LentFrom sheet state (step old lent highest working u′ M) = PairAsLoaded sheet (state .steps) old lent
-LentFrom sheet state (report lent number) = AsLoaded sheet lent
+abbrev pub LentFrom : List ℕ → State → LoneCall → Type 0
+LentFrom sheet state (alone n (start columns highest u)) = AsLoaded sheet n columns
+LentFrom sheet state (alone n (step old new highest working u′ M)) = PairAsLoaded sheet (state .steps) n old new
+LentFrom sheet state (alone n (report columns number)) = AsLoaded sheet n columns
 
 -- "every accepted one" is lent that; refused calls may be lent anything
-pub data Fed (sheet : List ℕ) : State → List Call → Type 0 where
+pub data Fed (sheet : List ℕ) : State → List LoneCall → Type 0 where
   none : {state : State} → Fed sheet state []
-  more : {state : State} {call : Call} {calls : List Call} → (T (accepts state call) → LentFrom sheet state call) →
+  more : {state : State} {call : LoneCall} {calls : List LoneCall} → (T (accepts state call) → LentFrom sheet state call) →
       Fed sheet (after state call) calls → Fed sheet state (call ∷ calls)
 
 -- what the exact river is fed of a call: "its kind, a start's U or a step's U', and whether it was accepted; nothing else".
@@ -85,14 +95,14 @@ pub data Event : Type 0 where
   still : Event
 
 -- the event of a call, by whether it was accepted
-abbrev pub event : Bool → Call → Event
+abbrev pub event : Bool → LoneCall → Event
 event false call = still
-event true (start lent highest u) = started u
-event true (step old lent highest working u′ M) = moved u′
-event true (report lent number) = still
+event true (alone n (start columns highest u)) = started u
+event true (alone n (step old new highest working u′ M)) = moved u′
+event true (alone n (report columns number)) = still
 
 -- those of a list of calls from a state
-unfoldable pub events : State → List Call → List Event
+unfoldable pub events : State → List LoneCall → List Event
 events state [] = []
 events state (call ∷ calls) = event (accepts state call) call ∷ events (after state call) calls
 

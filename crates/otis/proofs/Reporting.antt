@@ -9,7 +9,7 @@ use Rattle.lists.proofs.Lowest.{lowest-is}
 use Rattle.model.specs.Ranges.{_to_, outside, concentration}
 use Rattle.model.specs.State.{Columns, segmentAt, State, stateLists, figuresAt}
 use Rattle.model.specs.Refusals.{Place, refused, passes, fails, first}
-use Rattle.model.specs.Calls.{stateFault, heldFault, reportTests, reported, reportAnswer}
+use Rattle.model.specs.Calls.{stateFault, heldFault, reportTests, reported, report, result}
 use Rattle.otis.specs.declared.Figures.{Figures}
 use Rattle.otis.specs.declared.Report.the-variants.{Reported}
 use Rattle.otis.specs.Says.{reportSays}
@@ -56,11 +56,11 @@ module _ (n : ℕ) (x : Columns) (state : State) (number : ℕ) (unfit : Bool) (
     channel = getD (state .channel) (number - 1) 0;
     storage = getD (state .storage) (number - 1) 0;
     sediment = getD (x .kd) (number - 1) 0 * getD (state .sediment) (number - 1) 0;
-  } → reportSays (Reported f) ≡ reportAnswer n x state number
-  unfolding reportAnswer reported figuresAt segmentAt
+  } → reportSays (Reported f) ≡ result n state (report x number) .answer
+  unfolding result reported figuresAt segmentAt
   report-accepted e f r = rw (report-tests ∙ e, r)
 
   pub report-refused : (k : ℕ) (place : Place) → first (stateTests n x state unfit n 0 0) ≡ fails k place →
-      refused k place ≡ reportAnswer n x state number
-  unfolding reportAnswer
+      refused k place ≡ result n state (report x number) .answer
+  unfolding result
   report-refused k place e = rw (report-tests ∙ e)

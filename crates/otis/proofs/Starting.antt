@@ -1,5 +1,5 @@
 -- A start's outcome, from what its tests find.
-use mathlib.Core.Path.{_≡_}
+use mathlib.Core.Path.{_≡_, sym}
 use mathlib.Core.Bool.{_||_}
 use mathlib.Core.List.{List, map, _++_}
 use Prim.Native.Nat.{ℕ, _≤_}
@@ -12,16 +12,14 @@ use Rattle.lists.proofs.Shorter.{neither}
 use Rattle.model.specs.Ranges.{mostSegments}
 use Rattle.model.specs.Equations.{Figures}
 use Rattle.model.specs.State.{Columns, columnLists, segmentAt, segmentsOf, State, stateLists, writeFigures}
-use Rattle.model.specs.Refusals.{Place, passes, fails, first}
+use Rattle.model.specs.Refusals.{Place, accepted, refused, passes, fails, first}
 use Rattle.model.specs.Highest.{blockCount, highestOf, blocksFault}
-use Rattle.model.specs.Calls.{riverFault, startTests, startAnswer, startFigures, startState, startHighest}
-use Rattle.terms.specs.declared.Place as Code
-use Rattle.terms.specs.Says.{placeSays}
-use Rattle.otis.specs.declared.Answer.the-variants.{Accepted, Refused}
+use Rattle.model.specs.Calls.{noWorking, riverFault, startTests, startFigures, startLeft, start, result}
 use Rattle.lists.specs.Lent.{plain}
 use Rattle.terms.specs.Lent.{state, LongFigures}
-use Rattle.otis.specs.Outcomes.{StartOutcome}
+use Rattle.otis.specs.Outcomes.{outcome}
 use Rattle.model.proofs.Refusals.{all-pass, test-clear}
+use Rattle.model.proofs.Calls.{result-passes, result-fails}
 use Rattle.blocks.proofs.Fault.{blocks-long}
 use Rattle.calltests.proofs.RiverLaws.{counted, columns-long, figures-long}
 
@@ -59,15 +57,19 @@ module _ (n : ℕ) (x : Columns) (before : State) (lent : List ℕ) (u : ℕ) wh
   pub start-accepted : (c z w left : List ℕ) → first (startTests n x before lent u) ≡ passes →
       c ≡ over (tab 0 n (λ i. getD (x .start) i 0)) (before .channel) → z ≡ over (tab 0 n (λ i. getD (x .start) i 0)) (before .storage) →
       w ≡ over (tab 0 n (λ i. getD (x .start) i 0)) (before .sediment) → left ≡ over (highestOf n c) lent →
-      StartOutcome n x before lent u (Accepted (record { upstream = u; steps = 0 })) (state plain c z w u 0) left
-  unfolding startAnswer startState startHighest segmentAt writeFigures
-  start-accepted c z w left e p q r t = record {
-    answer = rw e;
-    state = rw (e, p, q, r, start-list (λ f. f .c), start-list (λ f. f .z), start-list (λ f. f .w));
-    highest = rw (e, t, p, start-list (λ f. f .c));
-  }
+      outcome (accepted (record { upstream = u; steps = 0 })) (state plain c z w u 0) left noWorking ≡ result n before (start x lent u)
+  unfolding startLeft segmentAt writeFigures
+  start-accepted c z w left e p q r t = rw (
+    result-passes n before (start x lent u) e,
+    t,
+    p,
+    q,
+    r,
+    start-list (λ f. f .c),
+    start-list (λ f. f .z),
+    start-list (λ f. f .w),
+  )
 
-  pub start-refused : (number : ℕ) (place : Code.Place) → first (startTests n x before lent u) ≡ fails number (placeSays place) →
-      StartOutcome n x before lent u (Refused number place) before lent
-  unfolding startAnswer startState startHighest
-  start-refused number place e = record { answer = rw e; state = rw e; highest = rw e }
+  pub start-refused : (number : ℕ) (place : Place) → first (startTests n x before lent u) ≡ fails number place →
+      outcome (refused number place) before lent noWorking ≡ result n before (start x lent u)
+  start-refused number place e = sym (result-fails n before (start x lent u) e)

@@ -20,25 +20,23 @@ use Rattle.model.specs.HalfStep.{Numbers}
 use Rattle.model.specs.Equations.{Figures, sumT, sumV}
 use Rattle.model.specs.Sweep.{stepped}
 use Rattle.model.specs.State.{NumberSet, setLists, numbersAt, Columns, columnLists, segmentAt, pairAt, pairsOf, State, stateLists, figuresAt, figuresOf, writeFigures}
-use Rattle.model.specs.Refusals.{Finding, passes, fails, test, first}
+use Rattle.model.specs.Refusals.{Place, accepted, refused, Finding, passes, fails, test, first}
 use Rattle.model.specs.Load.{sumFault}
 use Rattle.model.specs.Highest.{blockCount, highestOf, blocksFault}
-use Rattle.model.specs.Calls.{riverFault, numbersFault, segmentFault, figureFault, startFault, stateFault, oldFault, heldFault, Working, stepTests, stepAnswer, stepState, stepHighest, stepWorking}
+use Rattle.model.specs.Calls.{riverFault, numbersFault, segmentFault, figureFault, startFault, stateFault, oldFault, heldFault, Working, stepTests, stepLeft, step, result}
 use Rattle.model.proofs.Ranges.{inside}
 use Rattle.model.proofs.Refusals.{AllPass, all-pass, test-clear}
+use Rattle.model.proofs.Calls.{result-passes, result-fails}
 use Rattle.sweep_laws.specs.Accepted.{Sums, Accepted, AtMost}
 use Rattle.lists.specs.Lent.{plain}
 use Rattle.terms.specs.Lent as Lent
 use Rattle.sweep.specs.Step as Sweep
-use Rattle.terms.specs.declared.Place as Code
-use Rattle.terms.specs.Says.{placeSays}
 use Rattle.blocks.proofs.Fault.{blocks-long}
 use Rattle.calltests.specs.Tests.{stateTests}
 use Rattle.calltests.proofs.RiverLaws.{counted, columns-long, figures-long}
 use Rattle.terms.proofs.Lengths.{set-long}
 use Rattle.calltests.proofs.StateTests.{Sound, sound}
-use Rattle.otis.specs.declared.Answer.the-variants as Answer
-use Rattle.otis.specs.Outcomes.{StepOutcome}
+use Rattle.otis.specs.Outcomes.{outcome}
 
 -- ---- the tests of a step are those of its state, and then 15
 
@@ -166,10 +164,9 @@ module _ (n : ℕ) (old : NumberSet) (x : Columns) (state : State) (blocks : Lis
   step-tests : first (finding ∷ test 15 (leb M (state .steps)) ∷ []) ≡ first (stepTests n old x state blocks lent u′ M)
   step-tests = rw found (first-first (stateTests n x state unfit other u′ M) (test 15 (leb M (state .steps))) ∙ same-tests (riverFault n (setLists old)) refl)
 
-  pub step-refused : (number : ℕ) (place : Code.Place) → first (finding ∷ test 15 (leb M (state .steps)) ∷ []) ≡ fails number (placeSays place) →
-      StepOutcome n old x state blocks lent u′ M (Answer.Refused number place) state blocks lent
-  unfolding stepAnswer stepState stepHighest stepWorking
-  step-refused number place e = let e = sym step-tests ∙ e in record { answer = rw e; state = rw e; highest = rw e; working = rw e }
+  pub step-refused : (number : ℕ) (place : Place) → first (finding ∷ test 15 (leb M (state .steps)) ∷ []) ≡ fails number place →
+      outcome (refused number place) state blocks lent ≡ result n state (step old x blocks lent u′ M)
+  step-refused number place e = sym (result-fails n state (step old x blocks lent u′ M) (sym step-tests ∙ e))
 
   module _ (e : first (finding ∷ test 15 (leb M (state .steps)) ∷ []) ≡ passes) where
     all : AllPass (finding ∷ test 15 (leb M (state .steps)) ∷ [])
@@ -235,14 +232,16 @@ module _ (n : ℕ) (old : NumberSet) (x : Columns) (state : State) (blocks : Lis
         (counted n lists (known .river) .1, rw (done .state-after .of-channel) (le-trans (long .channel) (over-long new (state .channel))), blocks-long n blocks (fit .0))
 
     pub step-accepted : (c z w p y left : List ℕ) → Sweep.Stepped n old x (still state) lent u′ c z w p y → left ≡ over (highestOf n c) blocks →
-        StepOutcome n old x state blocks lent u′ M (Answer.Accepted (record { upstream = u′; steps = state .steps + 1 }))
-        (Lent.state plain c z w u′ (state .steps + 1)) left (Lent.working plain p y)
-    unfolding stepAnswer stepState stepHighest stepWorking writeFigures figuresAt pairAt
-    step-accepted c z w p y left done filled =
-        let e = sym step-tests ∙ e in
-        record {
-          answer = rw (e, add-one (state .steps));
-          state = rw (e, add-one (state .steps), done .state-after .of-channel, done .state-after .of-storage, done .state-after .of-sediment);
-          highest = rw (e, filled, done .state-after .of-channel);
-          working = rw (e, done .working-after .of-p, done .working-after .of-y);
-        }
+        outcome (accepted (record { upstream = u′; steps = state .steps + 1 }))
+        (Lent.state plain c z w u′ (state .steps + 1)) left (Lent.working plain p y) ≡ result n state (step old x blocks lent u′ M)
+    unfolding stepLeft writeFigures figuresAt pairAt
+    step-accepted c z w p y left done filled = rw (
+      result-passes n state (step old x blocks lent u′ M) (sym step-tests ∙ e),
+      add-one (state .steps),
+      filled,
+      done .state-after .of-channel,
+      done .state-after .of-storage,
+      done .state-after .of-sediment,
+      done .working-after .of-p,
+      done .working-after .of-y,
+    )

@@ -9,12 +9,12 @@ ghost use Rattle.lists.specs.Lists.{anyUnder};
 ghost use Rattle.model.specs.Highest.{blockCount};
 ghost use Rattle.model.specs.State.{setLists};
 ghost use Rattle.model.specs.Refusals.{test, first};
-ghost use Rattle.model.specs.Calls.{reportAnswer};
+ghost use Rattle.model.specs.Calls.{noWorking, Call, result};
 ghost use Rattle.terms.specs.Says.{findingSays};
 ghost use Rattle.lists.specs.Lent.{entry, exit};
 ghost use Rattle.terms.specs.Lent.{setOf, columnsOf, state, working};
 ghost use Rattle.otis.specs.Says.{answerSays, reportSays};
-ghost use Rattle.otis.specs.Outcomes.{stateAfter, StartOutcome, StepOutcome};
+ghost use Rattle.otis.specs.Outcomes.{stateAfter, outcome};
 use calltests::segments::set_at_fault;
 use calltests::start_test;
 use calltests::state_test;
@@ -76,9 +76,9 @@ impl River {
         highest: &mut [u32],
         u: u32,
     ) -> Answer
-        ensures { λ r. ⌜ ((upstream steps : ℕ) → StartOutcome n (columnsOf (numbers .entry) (fixed .entry))
-            (state entry channel storage sediment upstream steps) (entry highest) u r
-            (stateAfter exit channel storage sediment (answerSays r) upstream steps) (exit highest)) ⌝ }
+        ensures { λ r. ⌜ ((upstream steps : ℕ) →
+            outcome (answerSays r) (stateAfter exit channel storage sediment (answerSays r) upstream steps) (exit highest) noWorking
+            ≡ result n (state entry channel storage sediment upstream steps) (Call.start (columnsOf (numbers .entry) (fixed .entry)) (entry highest) u)) ⌝ }
     {
         let found = start_test(
             n,
@@ -124,9 +124,10 @@ impl River {
         u: u32,
         steps: u32,
     ) -> Answer
-        ensures { λ r. ⌜ StepOutcome n (setOf (old .entry)) (columnsOf (new .entry) (fixed .entry))
-            (state entry channel storage sediment (self .upstream) (self .steps)) (entry highest) (working entry p y) u steps r
-            (stateAfter exit channel storage sediment (answerSays r) (self .upstream) (self .steps)) (exit highest) (working exit p y) ⌝ }
+        ensures { λ r. ⌜ outcome (answerSays r) (stateAfter exit channel storage sediment (answerSays r) (self .upstream) (self .steps))
+            (exit highest) (working exit p y)
+            ≡ result n (state entry channel storage sediment (self .upstream) (self .steps))
+            (Call.step (setOf (old .entry)) (columnsOf (new .entry) (fixed .entry)) (entry highest) (working entry p y) u steps) ⌝ }
     {
         let count = n as usize;
         let unfit = others_short(n, highest.len(), p.len(), y.len(), old);
@@ -183,8 +184,8 @@ impl River {
         sediment: &[u32],
         segment: u32,
     ) -> Report
-        ensures { λ r. ⌜ reportSays r ≡ reportAnswer n (columnsOf (numbers .entry) (fixed .entry))
-            (state entry channel storage sediment (self .upstream) (self .steps)) segment ⌝ }
+        ensures { λ r. ⌜ reportSays r ≡ result n (state entry channel storage sediment (self .upstream) (self .steps))
+            (Call.report (columnsOf (numbers .entry) (fixed .entry)) segment) .answer ⌝ }
     {
         let unfit = outside(Range { low: 1, high: n }, segment as u64);
         let found = state_test(

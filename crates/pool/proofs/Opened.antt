@@ -16,8 +16,8 @@ use Rattle.model.specs.Equations.{Figures}
 use Rattle.model.specs.State.{Columns, loadedSegments, writeSegments}
 use Rattle.model.specs.Refusals.{Outcome, Finding, passes, fails, first, answer}
 use Rattle.model.specs.Load.{sheetTests, courseTests, riverTests, listTests, Loaded, loaded, columnsAfter}
-use Rattle.model.specs.Highest.{blockCount, highestAfter}
-use Rattle.model.specs.Calls.{startFigures}
+use Rattle.model.specs.Highest.{blockCount, highestOf}
+use Rattle.model.specs.Calls.{startFigures, leftAfter}
 use Rattle.model.specs.Pool.{Slot, Pool, openSegments, tableFault, openTests, openAnswer, openColumns, poolAfterOpen, poolOpen, openHighest}
 use Rattle.model.proofs.Refusals.{all-pass, first-of, first-both}
 use Rattle.pool_laws.proofs.Openings.{newTests, lastTests, opening-passed}
@@ -145,10 +145,13 @@ module _ (sheet : List ℕ) (r records : ℕ) (x : Columns) (p : Pool) (number :
       start ≡ columnsAfter (answer found (loaded sheet)) sheet r x .start → left ≡ highestAfterOpen (answer found (loaded sheet)) start highest →
       left ≡ openHighest sheet r records x p number highest u
   unfolding openHighest loaded
-  open-highest found e start left s el = el ∙ after found s ∙ ap (λ a. highestAfter a (segmentCount sheet) (map (λ (f : Figures). f .c) (map startFigures (loadedSegments sheet r))) highest) (open-answer found e)
+  open-highest found e start left s el = el ∙ after found s ∙ ap (λ a. leftAfter a highest new) (open-answer found e)
     where
+      new : List ℕ
+      new = over (highestOf (segmentCount sheet) (map (λ (f : Figures). f .c) (map startFigures (loadedSegments sheet r)))) highest
+
       after : (found : Finding) → start ≡ columnsAfter (answer found (loaded sheet)) sheet r x .start →
           highestAfterOpen (answer found (loaded sheet)) start highest
-          ≡ highestAfter (answer found (loaded sheet)) (segmentCount sheet) (map (λ (f : Figures). f .c) (map startFigures (loadedSegments sheet r))) highest
+          ≡ leftAfter (answer found (loaded sheet)) highest new
       after passes s = rw (s, highest-first (segmentCount sheet) (writeSegments (loadedSegments sheet r) x .start), figures (λ f. f .c) (λ q. refl))
       after (fails k place) s = refl

@@ -8,18 +8,16 @@ use Rattle.lists.specs.Lent.{plain}
 use Rattle.lists.proofs.Stretch.{splice-back, splice-self}
 use Rattle.model.specs.Ranges.{mostSegments, mostRivers}
 use Rattle.model.specs.State.{NumberSet, Columns, State}
-use Rattle.model.specs.Refusals.{Place, Outcome, accepted, refused, passes, fails, first}
-use Rattle.model.specs.Calls.{River, Working, startTests, startAnswer, startState, stepTests, stepAnswer, stepState, reportTests, reportAnswer}
-use Rattle.model.specs.Pool.{Slot, endOf, slotOf, Pool, stateOf, poolTests, poolAfter, poolStartTests, poolStartAnswer, poolStart, poolStartHighest}
-use Rattle.model.specs.Pool.{poolStepTests, poolStepAnswer, poolStep, poolStepHighest, poolStepWorking, poolReportTests, poolReportAnswer}
-use Rattle.model.proofs.Refusals.{first-front}
-use Rattle.pool_laws.proofs.Answers.{tests-clear, start-alone, start-highest-alone, step-alone, step-highest-alone, works-alone, report-alone}
+use Rattle.model.specs.Refusals.{Place, Outcome, accepted, refused, Finding, passes, fails, first}
+use Rattle.model.specs.Calls.{River, Working, Call, start, step, report, callTests, Values, leftAfter, result}
+use Rattle.model.specs.Pool.{Slot, endOf, slotOf, Pool, stateOf, withState, poolResult}
+use Rattle.model.proofs.Refusals.{first-rest}
+use Rattle.model.proofs.Calls.{lent-beside, result-passes, result-fails, refused-still}
+use Rattle.pool_laws.proofs.Answers.{frontTests, tests-clear, pool-passes, pool-fails, alike}
 use Rattle.pool_laws.proofs.Pools.{shared-long}
 use Rattle.pool_laws.proofs.Tables.{number-clear, fault-apart}
 use Rattle.terms.specs.Lent.{state}
-use Rattle.otis.specs.declared.Answer.{Answer}
-use Rattle.otis.specs.Says.{answerSays}
-use Rattle.otis.specs.Outcomes.{stateAfter, StartOutcome, StepOutcome}
+use Rattle.otis.specs.Outcomes.{stateAfter, outcome}
 use Rattle.pool.specs.Left.{tableAfter}
 
 -- where the pool's own tests pass: a number, and a stretch that every shared list has
@@ -30,7 +28,7 @@ pub record Stands (p : Pool) (number : ℕ) (x : Slot) : Type 0 where
   pub storage : mostSegments ≤ length (p .storage)
   pub sediment : mostSegments ≤ length (p .sediment)
 
-pub stands : (p : Pool) (number : ℕ) (x : Slot) → x ≡ slotOf (p .table) number → first (poolTests p number) ≡ passes → Stands p number x
+pub stands : (p : Pool) (number : ℕ) (x : Slot) → x ≡ slotOf (p .table) number → first (frontTests p number) ≡ passes → Stands p number x
 stands p number x e pass =
     let clear = tests-clear p number pass in
     let n = number-clear (p .table) number (clear .0) in
@@ -84,9 +82,9 @@ module _ (p : Pool) (number : ℕ) (x : Slot) (e : x ≡ slotOf (p .table) numbe
       )
 
   -- the pool after an answer, with the lists and the table that the answer left
-  pub written : (a : Outcome River) (c z w : List ℕ) (table : List Slot) → table ≡ tableAfter a (p .table) (number - 1) x →
+  written : (a : Outcome River) (c z w : List ℕ) (table : List Slot) → table ≡ tableAfter a (p .table) (number - 1) x →
       ((k : ℕ) (place : Place) → a ≡ refused k place → stateAfter plain c z w a (x .upstream) (x .steps) ≡ stateOf p number) →
-      returned p x table c z w ≡ poolAfter a p number (stateAfter plain c z w a (x .upstream) (x .steps))
+      returned p x table c z w ≡ leftAfter a p (withState p number (stateAfter plain c z w a (x .upstream) (x .steps)))
   written (accepted v) c z w table t same =
       rw (
         splice-back (x .first) (x .segments) c (p .channel),
@@ -97,101 +95,63 @@ module _ (p : Pool) (number : ℕ) (x : Slot) (e : x ≡ slotOf (p .table) numbe
       )
   written (refused k place) c z w table t same = rw t (unmoved c z w (x .upstream) (x .steps) (same k place refl))
 
--- ---- a start
+-- ---- the outcome on the pool from that on the stretch
 
-start-refused : (n : ℕ) (cols : Columns) (s : State) (highest : List ℕ) (u : ℕ) {k : ℕ} {place : Place} → startAnswer n cols s highest u ≡ refused k place →
-    startState n cols s highest u ≡ s
-unfolding startState
-start-refused n cols s highest u e = rw e
+module _ (p : Pool) (number : ℕ) (pass : first (frontTests p number) ≡ passes) (call : Call) where
+  -- of a call that leaves this state
+  on-pool : (a : Outcome (Values call)) (s : State) (highest : List ℕ) (working : Working) (later : Pool) →
+      outcome a s highest working ≡ result (slotOf (p .table) number .segments) (stateOf p number) call → later ≡ leftAfter a p (withState p number s) →
+      outcome a later highest working ≡ poolResult p number call
+  on-pool a s highest working later o l = go (first (callTests n (stateOf p number) call)) refl
+    where
+      n : ℕ
+      n = slotOf (p .table) number .segments
 
-module _ (p : Pool) (number : ℕ) (x : Slot) (e : x ≡ slotOf (p .table) number) (pass : first (poolTests p number) ≡ passes)
-    (cols : Columns) (highest : List ℕ) (u : ℕ) (r : Answer) (c z w left : List ℕ)
-    (o : (upstream steps : ℕ) → StartOutcome (x .segments) cols (parts x (p .channel) (p .storage) (p .sediment) upstream steps) highest u r (stateAfter plain c z w (answerSays r) upstream steps) left) where
-  begun : StartOutcome (slotOf (p .table) number .segments) cols (stateOf p number) highest u r (stateAfter plain c z w (answerSays r) (x .upstream) (x .steps)) left
-  begun = rw (parts-are p number x e, ap (λ (y : Slot). y .segments) e) at (o (x .upstream) (x .steps))
+      rest : first (frontTests p number ++ callTests n (stateOf p number) call) ≡ first (callTests n (stateOf p number) call)
+      rest = first-rest (frontTests p number) (callTests n (stateOf p number) call) pass
 
-  pub start-answer : answerSays r ≡ poolStartAnswer p number cols highest u
-  start-answer = begun .answer ∙ sym (start-alone p number pass cols highest u)
+      go : (t : Finding) → first (callTests n (stateOf p number) call) ≡ t → outcome a later highest working ≡ poolResult p number call
+      go passes e =
+          let is = o ∙ result-passes n (stateOf p number) call e in
+          rw (pool-passes p number call (rest ∙ e), l, ap (λ x. x .answer) is, ap (λ x. x .left .state) is, ap (λ x. x .left .highest) is, ap (λ x. x .left .working) is)
+      go (fails k place) e =
+          let is = o ∙ result-fails n (stateOf p number) call e in
+          rw (pool-fails p number call (rest ∙ e), l, ap (λ x. x .answer) is, ap (λ x. x .left .highest) is, ap (λ x. x .left .working) is)
+          (sym (ap (λ x. record { answer = refused k place; left = x }) (lent-beside p (stateOf p number) call)))
 
-  pub start-highest : left ≡ poolStartHighest p number cols highest u
-  start-highest = begun .highest ∙ sym (start-highest-alone p number pass cols highest u)
+module _ (p : Pool) (number : ℕ) (x : Slot) (e : x ≡ slotOf (p .table) number) (pass : first (frontTests p number) ≡ passes) where
+  -- document 01's call on the parts is that on the river's state
+  on-state : (call : Call) →
+      result (x .segments) (parts x (p .channel) (p .storage) (p .sediment) (x .upstream) (x .steps)) call ≡ result (slotOf (p .table) number .segments) (stateOf p number) call
+  on-state call = rw (parts-are p number x e, ap (λ (y : Slot). y .segments) e)
 
-  pub start-pool : (table : List Slot) → table ≡ tableAfter (answerSays r) (p .table) (number - 1) x → returned p x table c z w ≡ poolStart p number cols highest u
-  unfolding poolStart
-  start-pool table t =
-      written p number x e (answerSays r) c z w table t
-      (λ k place q. begun .state ∙ start-refused _ cols (stateOf p number) highest u (sym (begun .answer) ∙ q))
-      ∙ rw (begun .state, start-answer)
+  -- a start or a step
+  module _ (a : Outcome River) (c z w highest : List ℕ) (working : Working) (table : List Slot) (t : table ≡ tableAfter a (p .table) (number - 1) x) where
+    abbrev left : State
+    left = stateAfter plain c z w a (x .upstream) (x .steps)
 
--- ---- a step
+    -- the lists as they came back, where a refused call leaves its state as it was
+    came-back : ((k : ℕ) (place : Place) → a ≡ refused k place → left ≡ stateOf p number) → returned p x table c z w ≡ leftAfter a p (withState p number left)
+    came-back = written p number x e a c z w table t
 
-step-refused : (n : ℕ) (old : NumberSet) (new : Columns) (s : State) (highest : List ℕ) (working : Working) (u′ M : ℕ) {k : ℕ} {place : Place} →
-    stepAnswer n old new s highest working u′ M ≡ refused k place → stepState n old new s highest working u′ M ≡ s
-unfolding stepState
-step-refused n old new s highest working u′ M e = rw e
+    pub started : (cols : Columns) (lent : List ℕ) (u : ℕ) →
+        outcome a left highest working ≡ result (x .segments) (parts x (p .channel) (p .storage) (p .sediment) (x .upstream) (x .steps)) (start cols lent u) →
+        outcome a (returned p x table c z w) highest working ≡ poolResult p number (start cols lent u)
+    started cols lent u o =
+        let o = o ∙ on-state (start cols lent u) in
+        on-pool p number pass (start cols lent u) a left highest working _ o
+        (came-back (λ k place q. ap (λ x. x .left .state) o ∙ refused-still _ _ (start cols lent u) (sym (ap (λ x. x .answer) o) ∙ q)))
 
-module _ (p : Pool) (number : ℕ) (x : Slot) (e : x ≡ slotOf (p .table) number) (pass : first (poolTests p number) ≡ passes)
-    (old : NumberSet) (new : Columns) (highest : List ℕ) (lent : Working) (u′ M : ℕ) (r : Answer) (c z w left : List ℕ) (worked : Working)
-    (o : StepOutcome (x .segments) old new (parts x (p .channel) (p .storage) (p .sediment) (x .upstream) (x .steps)) highest lent u′ M r (stateAfter plain c z w (answerSays r) (x .upstream) (x .steps)) left worked) where
-  stepped : StepOutcome (slotOf (p .table) number .segments) old new (stateOf p number) highest lent u′ M r (stateAfter plain c z w (answerSays r) (x .upstream) (x .steps)) left worked
-  stepped = rw (parts-are p number x e, ap (λ (y : Slot). y .segments) e) at o
+    pub stepped : (old : NumberSet) (new : Columns) (lent : List ℕ) (works : Working) (u′ M : ℕ) →
+        outcome a left highest working ≡ result (x .segments) (parts x (p .channel) (p .storage) (p .sediment) (x .upstream) (x .steps)) (step old new lent works u′ M) →
+        outcome a (returned p x table c z w) highest working ≡ poolResult p number (step old new lent works u′ M)
+    stepped old new lent works u′ M o =
+        let o = o ∙ on-state (step old new lent works u′ M) in
+        on-pool p number pass (step old new lent works u′ M) a left highest working _ o
+        (came-back (λ k place q. ap (λ x. x .left .state) o ∙ refused-still _ _ (step old new lent works u′ M) (sym (ap (λ x. x .answer) o) ∙ q)))
 
-  pub step-answer : answerSays r ≡ poolStepAnswer p number old new highest lent u′ M
-  step-answer = stepped .answer ∙ sym (step-alone p number pass old new highest lent u′ M)
-
-  pub step-highest : left ≡ poolStepHighest p number old new highest lent u′ M
-  step-highest = stepped .highest ∙ sym (step-highest-alone p number pass old new highest lent u′ M)
-
-  pub step-pool : (table : List Slot) → table ≡ tableAfter (answerSays r) (p .table) (number - 1) x → returned p x table c z w ≡ poolStep p number old new highest lent u′ M
-  unfolding poolStep
-  step-pool table t =
-      written p number x e (answerSays r) c z w table t
-      (λ k place q. stepped .state ∙ step-refused _ old new (stateOf p number) highest lent u′ M (sym (stepped .answer) ∙ q))
-      ∙ rw (stepped .state, step-answer)
-
-  pub step-working : worked ≡ poolStepWorking p number old new highest lent u′ M
-  step-working = stepped .working ∙ sym (works-alone p number pass old new highest lent u′ M)
-
--- ---- a report
-
-pub report-answer : (p : Pool) (number : ℕ) (x : Slot) → x ≡ slotOf (p .table) number → first (poolTests p number) ≡ passes → (cols : Columns) (segment : ℕ) →
-    reportAnswer (x .segments) cols (parts x (p .channel) (p .storage) (p .sediment) (x .upstream) (x .steps)) segment ≡ poolReportAnswer p number cols segment
-report-answer p number x e pass cols segment =
-    rw (parts-are p number x e, ap (λ (y : Slot). y .segments) e) (sym (report-alone p number pass cols segment))
-
--- ---- refused by the pool's own tests
-
-module _ (p : Pool) (number : ℕ) {k : ℕ} {place : Place} (fault : first (poolTests p number) ≡ fails k place) where
-  module _ (cols : Columns) (highest : List ℕ) (u : ℕ) where
-    pub no-start : poolStartAnswer p number cols highest u ≡ refused k place
-    unfolding poolStartAnswer poolStartTests
-    no-start = rw (first-front (poolTests p number) (startTests (slotOf (p .table) number .segments) cols (stateOf p number) highest u) fault)
-
-    pub no-started : poolStart p number cols highest u ≡ p
-    unfolding poolStart
-    no-started = rw no-start
-
-    pub no-start-highest : poolStartHighest p number cols highest u ≡ highest
-    unfolding poolStartHighest
-    no-start-highest = rw no-start
-
-  module _ (old : NumberSet) (new : Columns) (highest : List ℕ) (lent : Working) (u′ M : ℕ) where
-    pub no-step : poolStepAnswer p number old new highest lent u′ M ≡ refused k place
-    unfolding poolStepAnswer poolStepTests
-    no-step = rw (first-front (poolTests p number) (stepTests (slotOf (p .table) number .segments) old new (stateOf p number) highest lent u′ M) fault)
-
-    pub no-stepped : poolStep p number old new highest lent u′ M ≡ p
-    unfolding poolStep
-    no-stepped = rw no-step
-
-    pub no-step-highest : poolStepHighest p number old new highest lent u′ M ≡ highest
-    unfolding poolStepHighest
-    no-step-highest = rw no-step
-
-    pub no-worked : poolStepWorking p number old new highest lent u′ M ≡ lent
-    unfolding poolStepWorking
-    no-worked = rw no-step
-
-  pub no-report : (cols : Columns) (segment : ℕ) → poolReportAnswer p number cols segment ≡ refused k place
-  unfolding poolReportAnswer poolReportTests
-  no-report cols segment = rw (first-front (poolTests p number) (reportTests (slotOf (p .table) number .segments) cols (stateOf p number) segment) fault)
+  -- a report
+  pub reports : (cols : Columns) (segment : ℕ) →
+      result (x .segments) (parts x (p .channel) (p .storage) (p .sediment) (x .upstream) (x .steps)) (report cols segment) .answer
+      ≡ poolResult p number (report cols segment) .answer
+  reports cols segment = ap (λ x. x .answer) (on-state (report cols segment)) ∙ sym (alike p number (report cols segment) pass .answer)

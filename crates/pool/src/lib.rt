@@ -11,11 +11,13 @@ ghost use Rattle.model.specs.Ranges.{outside, concentration, mostSegments};
 ghost use Rattle.model.specs.Sheet.{segmentCount};
 ghost use Rattle.model.specs.Highest.{blockCount};
 ghost use Rattle.model.specs.Refusals.{passes, test, first};
-ghost use Rattle.model.specs.Pool.{openSegments, roomFault, tableFault, poolTests, poolStartAnswer, poolStart, poolStartHighest, poolStepAnswer, poolStep, poolStepHighest, poolStepWorking, poolReportAnswer, closeFinding, closedTable, openAnswer, openColumns, poolOpen, openHighest};
+ghost use Rattle.model.specs.Calls.{noWorking, Call};
+ghost use Rattle.model.specs.Pool.{sharedLists, openSegments, roomFault, tableFault, poolTests, poolResult, closeFinding, closedTable, openAnswer, openColumns, poolOpen, openHighest};
 ghost use Rattle.terms.specs.Says.{findingSays};
 ghost use Rattle.terms.specs.Lent.{columns, setOf, columnsOf, working, tableIn, pool};
 ghost use Rattle.assembly.specs.Says.{loadSays};
 ghost use Rattle.otis.specs.Says.{answerSays, reportSays};
+ghost use Rattle.otis.specs.Outcomes.{outcome};
 ghost use Rattle.pool_table.specs.Says.{slotSays};
 ghost use Rattle.pool.specs.Left.{tableAfter, WhereLoaded, listAfterOpen, highestAfterOpen, tableAfterOpen};
 use assembly::Load;
@@ -55,7 +57,7 @@ fn pool_test(
     sediment: &[u32],
     table: &Table,
 ) -> Finding
-    ensures { λ r. ⌜ findingSays r ≡ first (poolTests (pool entry channel storage sediment table) river) ⌝ }
+    ensures { λ r. ⌜ findingSays r ≡ first (poolTests (tableIn (entry table)) (sharedLists (pool entry channel storage sediment table)) river) ⌝ }
 {
     if number_fault(*table, river) {
         return Finding::Fails(18, Place::Nothing);
@@ -88,12 +90,8 @@ pub fn start(
     table: &mut Table,
     u: u32,
 ) -> Answer
-    ensures answer { λ r. ⌜ answerSays r ≡ poolStartAnswer (pool entry channel storage sediment table) river
-        (columnsOf (numbers .entry) (fixed .entry)) (entry highest) u ⌝ }
-    ensures pool { λ r. ⌜ pool exit channel storage sediment table ≡ poolStart (pool entry channel storage sediment table) river
-        (columnsOf (numbers .entry) (fixed .entry)) (entry highest) u ⌝ }
-    ensures highest { λ r. ⌜ exit highest ≡ poolStartHighest (pool entry channel storage sediment table) river
-        (columnsOf (numbers .entry) (fixed .entry)) (entry highest) u ⌝ }
+    ensures { λ r. ⌜ outcome (answerSays r) (pool exit channel storage sediment table) (exit highest) noWorking
+        ≡ poolResult (pool entry channel storage sediment table) river (Call.start (columnsOf (numbers .entry) (fixed .entry)) (entry highest) u) ⌝ }
 {
     let found = pool_test(river, &channel[..], &storage[..], &sediment[..], &*table);
     if let Finding::Fails(number, place) = found {
@@ -133,14 +131,9 @@ pub fn step(
     u: u32,
     steps: u32,
 ) -> Answer
-    ensures answer { λ r. ⌜ answerSays r ≡ poolStepAnswer (pool entry channel storage sediment table) river
-        (setOf (old .entry)) (columnsOf (new .entry) (fixed .entry)) (entry highest) (working entry p y) u steps ⌝ }
-    ensures pool { λ r. ⌜ pool exit channel storage sediment table ≡ poolStep (pool entry channel storage sediment table) river
-        (setOf (old .entry)) (columnsOf (new .entry) (fixed .entry)) (entry highest) (working entry p y) u steps ⌝ }
-    ensures highest { λ r. ⌜ exit highest ≡ poolStepHighest (pool entry channel storage sediment table) river
-        (setOf (old .entry)) (columnsOf (new .entry) (fixed .entry)) (entry highest) (working entry p y) u steps ⌝ }
-    ensures working { λ r. ⌜ working exit p y ≡ poolStepWorking (pool entry channel storage sediment table) river
-        (setOf (old .entry)) (columnsOf (new .entry) (fixed .entry)) (entry highest) (working entry p y) u steps ⌝ }
+    ensures { λ r. ⌜ outcome (answerSays r) (pool exit channel storage sediment table) (exit highest) (working exit p y)
+        ≡ poolResult (pool entry channel storage sediment table) river
+        (Call.step (setOf (old .entry)) (columnsOf (new .entry) (fixed .entry)) (entry highest) (working entry p y) u steps) ⌝ }
 {
     let found = pool_test(river, &channel[..], &storage[..], &sediment[..], &*table);
     if let Finding::Fails(number, place) = found {
@@ -183,8 +176,8 @@ pub fn report(
     table: &Table,
     segment: u32,
 ) -> Report
-    ensures { λ r. ⌜ reportSays r ≡ poolReportAnswer (pool entry channel storage sediment table) river
-        (columnsOf (numbers .entry) (fixed .entry)) segment ⌝ }
+    ensures { λ r. ⌜ reportSays r ≡ poolResult (pool entry channel storage sediment table) river
+        (Call.report (columnsOf (numbers .entry) (fixed .entry)) segment) .answer ⌝ }
 {
     let found = pool_test(river, channel, storage, sediment, table);
     if let Finding::Fails(number, place) = found {

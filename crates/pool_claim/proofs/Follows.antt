@@ -1,5 +1,5 @@
 -- How a river in a pool follows its own calls, and what the claim says of one that does.
-use mathlib.Core.Path.{_≡_, sym, ap, ap₂, subst, _∙_}
+use mathlib.Core.Path.{_≡_, sym, ap, subst, _∙_}
 use mathlib.Core.Bool.{true, false, true≢false}
 use mathlib.Core.List.{List}
 use mathlib.Core.Option.{Option, none, some}
@@ -13,36 +13,36 @@ use Rattle.model.specs.Sheet.{Reach}
 use Rattle.model.specs.State.{Columns, State}
 use Rattle.model.specs.Refusals.{accepted, passes, first}
 use Rattle.model.specs.Load.{loaded, loadAnswer}
-use Rattle.model.specs.Calls.{startAnswer, startHighest, stepAnswer, stepHighest, stepWorking, reportAnswer}
+use Rattle.model.specs.Calls.{start, result}
 use Rattle.model.specs.Search.{SearchAnswer}
-use Rattle.model.specs.Runs.{Lent, Call, start, accepts, after, run, AsLoaded, Fed}
-use Rattle.model.specs.Pool.{isOpen, slotOf, Pool, stateOf, numberFault, sharedFault, poolTests, closeFinding}
-use Rattle.model.specs.PoolRuns.{Own, ownCalls, withCall}
-use Rattle.model.specs.PoolClaim.{OwnLists, AsAlone, Shown}
+use Rattle.model.specs.Runs.{LoneCall, alone, accepts, after, run, OwnLists, AsLoaded, Fed}
+use Rattle.model.specs.Pool.{isOpen, slotOf, Pool, sharedLists, stateOf, numberFault, sharedFault, poolResult, closeFinding}
+use Rattle.model.specs.PoolRuns.{Own, ownStart, ownCalls, withCall}
+use Rattle.model.specs.PoolClaim.{Alike, AsAlone, Shown}
 use Rattle.distance_claim.proofs.Claim.{demand3}
 use Rattle.pool_laws.proofs.Tables.{fault-apart, clear-number}
 use Rattle.pool_laws.proofs.Pools.{long-shared, Sound, Beside}
 use Rattle.pool_claim.proofs.Lengths.{run-last}
-use Rattle.pool_laws.proofs.Answers.{tests-pass, start-alone, start-highest-alone, step-alone, step-highest-alone, works-alone, report-alone, search-alone, search-on-pool}
+use Rattle.pool_laws.proofs.Answers.{frontTests, tests-pass, alike, search-alone, search-on-pool}
 use Rattle.pool_claim.proofs.Answers.{not-open}
 
 -- how a river began: a loading of its sheet was accepted, and a start on the lists that it left is, into any lists of its own
-pub record Begun (sheet : List ℕ) (lent : Lent) (highest : List ℕ) (u : ℕ) : Type 0 where
+pub record Begun (sheet : List ℕ) (n : ℕ) (lent : Columns) (highest : List ℕ) (u : ℕ) : Type 0 where
   pub flow : ℕ
   pub records : List Reach
   pub columns : Columns
   pub loading : loadAnswer sheet flow (length records) columns ≡ accepted (loaded sheet)
-  pub lists : AsLoaded sheet lent
-  pub starts : (before : State) → OwnLists (lent .count) before → T (accepts before (start lent highest u))
+  pub lists : AsLoaded sheet n lent
+  pub starts : (before : State) → OwnLists n before → T (accepts before (alone n (start lent highest u)))
 
 -- an open river whose state is the one that its own calls give, made alone
 pub record Following (pool : Pool) (number : ℕ) (own : Own) : Type 0 where
   pub least : 1 ≤ number
   pub most : number ≤ mostRivers
   pub opened : isOpen (slotOf (pool .table) number) ≡ true
-  pub segments : slotOf (pool .table) number .segments ≡ own .lent .count
-  pub begun : Begun (own .sheet) (own .lent) (own .highest) (own .u)
-  pub figures : (before : State) → OwnLists (own .lent .count) before → stateOf pool number ≡ run before (ownCalls own)
+  pub segments : slotOf (pool .table) number .segments ≡ own .count
+  pub begun : Begun (own .sheet) (own .count) (own .columns) (own .highest) (own .u)
+  pub figures : (before : State) → OwnLists (own .count) before → stateOf pool number ≡ run before (ownCalls own)
 
 -- the river with this number, by its own calls
 abbrev pub Follows : Pool → (number : ℕ) → Option Own → Type 0
@@ -67,7 +67,7 @@ follows-beside (some own) beside f =
     }
 
 -- an accepted call on the river itself: one call more
-pub follows-call : (before later : Pool) (number : ℕ) (call : Call) (own : Option Own) → 1 ≤ number → number ≤ mostRivers →
+pub follows-call : (before later : Pool) (number : ℕ) (call : LoneCall) (own : Option Own) → 1 ≤ number → number ≤ mostRivers →
     isOpen (slotOf (before .table) number) ≡ true → isOpen (slotOf (later .table) number) ≡ true →
     slotOf (later .table) number .segments ≡ slotOf (before .table) number .segments → stateOf later number ≡ after (stateOf before number) call →
     Follows before number own → Follows later number (withCall call own)
@@ -81,7 +81,7 @@ follows-call before later number call (some own) h l o p n e f = record {
   begun = f .begun;
   figures = λ state lists.
       e ∙ ap (λ s. after s call) (f .figures state lists)
-      ∙ sym (run-last (after state (start (own .lent) (own .highest) (own .u))) (own .since) call);
+      ∙ sym (run-last (after state (ownStart own)) (own .since) call);
 }
 
 -- ---- what the claim says of it
@@ -107,38 +107,31 @@ module _ (pool : Pool) (number : ℕ) (sound : Sound pool) where
     clear = clear-number (pool .table) number (f .least) (f .most) (f .opened) (sound .table)
 
     -- nor does 13 in the shared lists
-    shared : sharedFault pool ≡ false
+    shared : sharedFault (sharedLists pool) ≡ false
     shared = let place : number - 1 < mostRivers = omega (arith, f .least, f .most) in long-shared pool (sound .long (number - 1) place (f .opened))
 
     -- so the pool's own tests pass
-    pass : first (poolTests pool number) ≡ passes
+    pass : first (frontTests pool number) ≡ passes
     pass = tests-pass pool number clear shared
 
     -- it is as the same calls make it alone
-    as-alone : (before : State) → OwnLists (own .lent .count) before → AsAlone pool number own before
+    as-alone : (before : State) → OwnLists (own .count) before → AsAlone pool number own before
     as-alone before lists =
         let state : stateOf pool number ≡ run before (ownCalls own) = f .figures before lists in
         record {
           figures = state;
-          starts = λ columns highest u. start-alone pool number pass columns highest u ∙ ap₂ (λ n s. startAnswer n columns s highest u) (f .segments) state;
-          startsHighest = λ columns highest u.
-              start-highest-alone pool number pass columns highest u ∙ ap₂ (λ n s. startHighest n columns s highest u) (f .segments) state;
-          steps = λ old new highest working u′ M.
-              step-alone pool number pass old new highest working u′ M ∙ ap₂ (λ n s. stepAnswer n old new s highest working u′ M) (f .segments) state;
-          stepsHighest = λ old new highest working u′ M.
-              step-highest-alone pool number pass old new highest working u′ M ∙ ap₂ (λ n s. stepHighest n old new s highest working u′ M) (f .segments) state;
-          works = λ old new highest working u′ M.
-              works-alone pool number pass old new highest working u′ M ∙ ap₂ (λ n s. stepWorking n old new s highest working u′ M) (f .segments) state;
-          reports = λ columns segment. report-alone pool number pass columns segment ∙ ap₂ (λ n s. reportAnswer n columns s segment) (f .segments) state;
+          calls = λ call.
+              subst (λ n. Alike (poolResult pool number call) (result n (run before (ownCalls own)) call)) (f .segments)
+              (subst (λ (x : State). Alike (poolResult pool number call) (result (slotOf (pool .table) number .segments) x call)) state (alike pool number call pass));
           searches = λ highest limit answer s.
-              subst (λ (x : State). SearchAnswer (own .lent .count) (x .channel) highest limit answer) state
+              subst (λ (x : State). SearchAnswer (own .count) (x .channel) highest limit answer) state
               (subst (λ n. SearchAnswer n (stateOf pool number .channel) highest limit answer) (f .segments) (search-alone pool number pass highest limit answer s));
           searchesAll = λ highest limit answer s.
               search-on-pool pool number pass highest limit answer
               (subst (λ n. SearchAnswer n (stateOf pool number .channel) highest limit answer) (sym (f .segments))
-              (subst (λ (x : State). SearchAnswer (own .lent .count) (x .channel) highest limit answer) (sym state) s));
+              (subst (λ (x : State). SearchAnswer (own .count) (x .channel) highest limit answer) (sym state) s));
           demand3 = λ fed. let b = f .begun in
-              demand3 (own .sheet) (b .flow) (b .records) (b .columns) (loaded (own .sheet)) (b .loading) before (own .lent) (own .highest) (own .u) (own .since)
+              demand3 (own .sheet) (b .flow) (b .records) (b .columns) (loaded (own .sheet)) (b .loading) before (own .count) (own .columns) (own .highest) (own .u) (own .since)
               (b .starts before lists) (Fed.more (λ a. b .lists) fed);
         }
 

@@ -1,4 +1,4 @@
--- The lists of a river that has them alone keep their lengths through starts and steps, and one call more behind a list of calls.
+-- The lists of a river that has them alone keep their lengths through its calls, and one call more behind a list of calls.
 use mathlib.Core.Path.{_≡_, refl, sym, ap, _∙_}
 use mathlib.Core.List.{List, [], _∷_, _++_, map, append-nil}
 use Prim.Native.Nat.{ℕ, suc}
@@ -9,11 +9,9 @@ use Rattle.lists.proofs.Tab.{length-tab}
 use Rattle.lists.proofs.Over.{length-over}
 use Rattle.model.specs.Equations.{Figures, Pair}
 use Rattle.model.specs.Sweep.{Row, rows, Passed, Above, under, pass, down, up, finish, downward, stepped}
-use Rattle.model.specs.State.{NumberSet, Columns, segmentsOf, pairsOf, State, figuresAt, figuresOf, writeFigures}
-use Rattle.model.specs.Refusals.{Outcome, accepted, refused}
-use Rattle.model.specs.Calls.{River, Working, startAnswer, startFigures, stateAfterStart, startState, stepAnswer, stateAfterStep, stepState}
-use Rattle.model.specs.Runs.{Call, after, run}
-use Rattle.model.specs.PoolClaim.{OwnLists}
+use Rattle.model.specs.State.{segmentsOf, pairsOf, State, figuresAt, figuresOf, writeFigures}
+use Rattle.model.specs.Calls.{startFigures, startLeft, stepLeft, Call, start, step, report, callLeft}
+use Rattle.model.specs.Runs.{LoneCall, after, run, OwnLists}
 
 -- ---- a step has figures for each segment
 
@@ -82,34 +80,20 @@ own-written fs u steps n before many own = record {
   sediment = length-written fs (λ x. x .w) (before .sediment) n many (own .sediment);
 }
 
-module _ (n : ℕ) (columns : Columns) (state : State) (own : OwnLists n state) where
-  -- a start leaves lists of the same lengths
-  pub start-own : (highest : List ℕ) (u : ℕ) → OwnLists n (startState n columns state highest u)
-  unfolding startState
-  start-own highest u = go (startAnswer n columns state highest u)
-    where
-      go : (o : Outcome River) → OwnLists n (stateAfterStart o n columns state)
-      go (accepted v) = own-written _ _ _ n state (length-map (segmentsOf n columns) startFigures ∙ length-tab _ 0 n) own
-      go (refused number place) = own
-
-  -- and a step
-  pub step-own : (old : NumberSet) (highest : List ℕ) (working : Working) (u′ M : ℕ) → OwnLists n (stepState n old columns state highest working u′ M)
-  unfolding stepState
-  step-own old highest working u′ M = go (stepAnswer n old columns state highest working u′ M)
-    where
-      size : length (pairsOf n old columns) ≡ n
-      size = length-tab _ 0 n
-
-      go : (o : Outcome River) → OwnLists n (stateAfterStep o n old columns state)
-      go (accepted v) =
-          own-written _ _ _ n state
-          (length-stepped (state .upstream) (v .upstream) (pairsOf n old columns) (figuresOf n state) (length-tab (figuresAt state) 0 n ∙ sym size) ∙ size) own
-      go (refused number place) = own
+-- an accepted call leaves lists of the same lengths
+pub left-own : (n : ℕ) (state : State) (call : Call) → OwnLists n state → OwnLists n (callLeft n state call .state)
+unfolding startLeft stepLeft
+left-own n state (start columns highest u) own = own-written _ _ _ n state (length-map (segmentsOf n columns) startFigures ∙ length-tab _ 0 n) own
+left-own n state (step old new highest working u′ M) own =
+    let size : length (pairsOf n old new) ≡ n = length-tab _ 0 n in
+    own-written _ _ _ n state
+    (length-stepped (state .upstream) u′ (pairsOf n old new) (figuresOf n state) (length-tab (figuresAt state) 0 n ∙ sym size) ∙ size) own
+left-own n state (report columns number) own = own
 
 -- ---- one call more
 
 -- a list of calls and then one more
-pub run-last : (before : State) (calls : List Call) (call : Call) → run before (calls ++ (call ∷ [])) ≡ after (run before calls) call
+pub run-last : (before : State) (calls : List LoneCall) (call : LoneCall) → run before (calls ++ (call ∷ [])) ≡ after (run before calls) call
 unfolding run
 run-last before [] call = refl
 run-last before (c ∷ calls) call = run-last (after before c) calls call

@@ -12,11 +12,11 @@ use Rattle.model.specs.State.{Columns, State, loadedSegments, writeSegments}
 use Rattle.model.specs.Refusals.{passes, first, accepted}
 use Rattle.model.specs.Load.{loaded, loadAnswer}
 use Rattle.model.specs.Highest.{highestOf}
-use Rattle.model.specs.Calls.{startFigures, startTests, startAnswer, startState, startHighest}
-use Rattle.model.specs.Runs.{Lent, start, accepts, after, run}
+use Rattle.model.specs.Calls.{noWorking, startFigures, startTests, startLeft, start, result}
+use Rattle.model.specs.Runs.{alone, accepts, after, run, OwnLists}
 use Rattle.model.specs.Pool.{Pool, poolAfterOpen}
 use Rattle.model.specs.PoolRuns.{Own}
-use Rattle.model.specs.PoolClaim.{OwnLists}
+use Rattle.model.proofs.Calls.{result-passes}
 use Rattle.loading_laws.proofs.Loaded.{known, loads, left-loaded, start-passes}
 use Rattle.pool_laws.proofs.Tables.{room-clear}
 use Rattle.pool_laws.proofs.Pools.{Sound, Others, started, NewlyOpened, with-opened}
@@ -42,43 +42,50 @@ startedState sheet r u = started (startOf sheet r (λ f. f .c)) (startOf sheet r
 
 module _ (pool : Pool) (number : ℕ) (sheet : List ℕ) (r records : ℕ) (columns : Columns) (highest : List ℕ) (u : ℕ)
     (p : Passed pool number sheet r records columns highest u) where
-  -- what the river is lent by its opening
-  abbrev newLent : Lent
-  newLent = record { count = segmentCount sheet; columns = writeSegments (loadedSegments sheet r) columns }
+  -- the lists that the river is left by its opening
+  abbrev newColumns : Columns
+  newColumns = writeSegments (loadedSegments sheet r) columns
 
   -- its own calls
   abbrev newOwn : Own
-  newOwn = record { sheet = sheet; lent = newLent; highest = highest; u = u; since = [] }
+  newOwn = record { sheet = sheet; count = segmentCount sheet; columns = newColumns; highest = highest; u = u; since = [] }
 
   -- a start on them passes its tests
-  pub passed : (before : State) → OwnLists (segmentCount sheet) before → first (startTests (segmentCount sheet) (newLent .columns) before highest u) ≡ passes
+  passed : (before : State) → OwnLists (segmentCount sheet) before → first (startTests (segmentCount sheet) newColumns before highest u) ≡ passes
   passed before lists = start-passes sheet r records columns (p .front) (p .lists) before lists highest (p .blocks) u (p .upstream)
 
-  -- the start made alone
-  start-alone : (before : State) → OwnLists (segmentCount sheet) before → run before (start newLent highest u ∷ []) ≡ startedState sheet r u
-  unfolding run after startState startAnswer
-  start-alone before lists =
-      rw (passed before lists, left-loaded sheet r records columns (p .front) (p .lists) .segments)
-      (write-all (map startFigures (loadedSegments sheet r)) u 0 (segmentCount sheet) before (start-many sheet r) lists)
+  -- the start made alone leaves the start figures, and the highest of them
+  pub start-left : (before : State) → OwnLists (segmentCount sheet) before → result (segmentCount sheet) before (start newColumns highest u) ≡ record {
+    answer = accepted (record { upstream = u; steps = 0 });
+    left = record {
+      state = startedState sheet r u;
+      highest = over (highestOf (segmentCount sheet) (startOf sheet r (λ f. f .c))) highest;
+      working = noWorking;
+    };
+  }
+  unfolding startLeft
+  start-left before lists =
+      result-passes (segmentCount sheet) before (start newColumns highest u) (passed before lists)
+      ∙ rw (
+        left-loaded sheet r records columns (p .front) (p .lists) .segments,
+        write-all (map startFigures (loadedSegments sheet r)) u 0 (segmentCount sheet) before (start-many sheet r) lists,
+      )
 
-  -- it leaves the highest of the start figures
-  pub start-highest : (before : State) → OwnLists (segmentCount sheet) before →
-      startHighest (segmentCount sheet) (newLent .columns) before highest u ≡ over (highestOf (segmentCount sheet) (startOf sheet r (λ f. f .c))) highest
-  unfolding startHighest startAnswer run after
-  start-highest before lists =
-      rw (passed before lists) (ap (λ (s : State). over (highestOf (segmentCount sheet) (s .channel)) highest) (start-alone before lists))
+  start-alone : (before : State) → OwnLists (segmentCount sheet) before → run before (alone (segmentCount sheet) (start newColumns highest u) ∷ []) ≡ startedState sheet r u
+  unfolding run after
+  start-alone before lists = ap (λ x. x .left .state) (start-left before lists)
 
   -- and is accepted
-  start-accepted : (before : State) → OwnLists (segmentCount sheet) before → T (accepts before (start newLent highest u))
-  unfolding accepts startAnswer
-  start-accepted before lists = rw (passed before lists) tt
+  start-accepted : (before : State) → OwnLists (segmentCount sheet) before → T (accepts before (alone (segmentCount sheet) (start newColumns highest u)))
+  unfolding accepts
+  start-accepted before lists = rw (start-left before lists) tt
 
   -- so is the loading
   load-accepted : (many : ℕ) → many ≡ records → loadAnswer sheet r many columns ≡ accepted (loaded sheet)
   load-accepted many e = rw e (loads sheet r records columns (p .front) (p .lists))
 
   -- so the river has begun
-  begun : Begun sheet newLent highest u
+  begun : Begun sheet (segmentCount sheet) newColumns highest u
   begun = record {
     flow = r;
     records = replicate records (reachOf (λ k. 0));

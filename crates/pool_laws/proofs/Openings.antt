@@ -10,7 +10,7 @@ use Rattle.model.specs.State.{Columns}
 use Rattle.model.specs.Refusals.{Finding, passes, test, first}
 use Rattle.model.specs.Load.{riverTests, listTests}
 use Rattle.model.specs.Highest.{blocksFault}
-use Rattle.model.specs.Pool.{Slot, Pool, roomFault, tableFault, sharedFault, openTests}
+use Rattle.model.specs.Pool.{Slot, Pool, sharedLists, roomFault, tableFault, sharedFault, openTests}
 use Rattle.model.proofs.Refusals.{first-both, all-pass, test-clear}
 
 -- 17 and 18
@@ -23,7 +23,7 @@ upTo18 table number sheet = riverTests sheet ++ newTests table number (segmentCo
 
 -- and those behind its 13
 abbrev pub lastTests : Pool → (n : ℕ) → (highest : List ℕ) → (u : ℕ) → List Finding
-lastTests pool n highest u = test 13 (sharedFault pool || blocksFault n highest) ∷ test 14 (outside concentration u) ∷ []
+lastTests pool n highest u = test 13 (sharedFault (sharedLists pool) || blocksFault n highest) ∷ test 14 (outside concentration u) ∷ []
 
 -- each of its tests
 pub record Passed (pool : Pool) (number : ℕ) (sheet : List ℕ) (r records : ℕ) (columns : Columns) (highest : List ℕ) (u : ℕ) : Type 0 where
@@ -31,7 +31,7 @@ pub record Passed (pool : Pool) (number : ℕ) (sheet : List ℕ) (r records : �
   pub room : roomFault (pool .table) number (segmentCount sheet) ≡ false
   pub table : tableFault (pool .table) ≡ false
   pub lists : first (listTests sheet r records columns) ≡ passes
-  pub shared : sharedFault pool ≡ false
+  pub shared : sharedFault (sharedLists pool) ≡ false
   pub blocks : blocksFault (segmentCount sheet) highest ≡ false
   pub upstream : outside concentration u ≡ false
 
@@ -49,7 +49,7 @@ opening-passed pool number sheet r records columns highest u e =
     let c = first-both (riverTests sheet) new (b .0) in
     let two = all-pass new (c .1) in
     let behind = all-pass last (a .1) in
-    let long = neither (sharedFault pool) _ (test-clear 13 _ (behind .0)) in
+    let long = neither (sharedFault (sharedLists pool)) _ (test-clear 13 _ (behind .0)) in
     record {
       front = c .0;
       room = test-clear 17 _ (two .0);

@@ -12,7 +12,8 @@ use Rattle.lists.proofs.Stretch.{lt-or-ge, length-splice, stretch-splice, stret
 use Rattle.model.specs.Ranges.{mostSegments, mostRivers}
 use Rattle.model.specs.State.{State}
 use Rattle.model.specs.Pool.{Slot, isOpen, endOf, slotAt, slotOf, Pool, sharedLists, stateIn, stateOf, slotWith, withState, roomFault, tableFault, numberFault, sharedFault, closedSlot, coveredBelow, packed, moved, newSlot}
-use Rattle.model.specs.PoolClaim.{NoneOpen, OwnLists}
+use Rattle.model.specs.Runs.{OwnLists}
+use Rattle.model.specs.PoolClaim.{NoneOpen}
 use Rattle.pool_laws.proofs.Packing.{Open, stretch-packed, new-packed, length-packed, below-open, below-apart, below-ends}
 use Rattle.pool_laws.proofs.Tables.{slot-set-same, slot-set-other, slot-map, same-or-not, place-other, Apart, fault-apart, apart-fault, apart-stands, stands-set, number-clear, room-clear}
 
@@ -25,12 +26,12 @@ pub record Long (pool : Pool) : Type 0 where
   pub sediment : mostSegments ≤ length (pool .sediment)
 
 -- test 13 finds no fault: they have
-pub shared-long : (pool : Pool) → sharedFault pool ≡ false → Long pool
+pub shared-long : (pool : Pool) → sharedFault (sharedLists pool) ≡ false → Long pool
 unfolding sharedFault
 shared-long pool e = let all = all-long mostSegments (sharedLists pool) e in record { channel = all .0; storage = all .1 .0; sediment = all .1 .1 .0 }
 
 -- they have: test 13 finds no fault
-pub long-shared : (pool : Pool) → Long pool → sharedFault pool ≡ false
+pub long-shared : (pool : Pool) → Long pool → sharedFault (sharedLists pool) ≡ false
 unfolding sharedFault
 long-shared pool r = none-shorter mostSegments (sharedLists pool) (r .channel, (r .storage, (r .sediment, tt)))
 
@@ -374,7 +375,7 @@ module _ (table : List Slot) (number n u : ℕ) (slots : length table ≡ mostRi
   }
 
 -- the river opened, in a pool that is kept
-module _ (pool : Pool) (number n : ℕ) (sound : Sound pool) (room : roomFault (pool .table) number n ≡ false) (lists : sharedFault pool ≡ false) where
+module _ (pool : Pool) (number n : ℕ) (sound : Sound pool) (room : roomFault (pool .table) number n ≡ false) (lists : sharedFault (sharedLists pool) ≡ false) where
   -- a packed list is as long
   long-packed : (entries list : List ℕ) → length entries ≡ n → mostSegments ≤ length list → mostSegments ≤ length (packed (pool .table) entries list)
   long-packed entries list e h =

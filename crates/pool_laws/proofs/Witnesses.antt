@@ -19,22 +19,22 @@ use Rattle.model.specs.State.{State, pairAt, numbersAt, segmentAt, writeSegment
 use Rattle.model.specs.Refusals.{accepted, passes, first}
 use Rattle.model.specs.Load.{flowRowFault, testFlows, walk, startsLate, rowFault, gaugeFault, flowFault, faceFault, sumFault, sheetTests, courseTests, listTests, loadTests, loaded, loadAnswer, loadColumns}
 use Rattle.model.specs.Highest.{blockHighest, blocksFault}
-use Rattle.model.specs.Calls.{oldFault, numbersFault, riverFault, segmentFault, figureFault, startFault, stateFault, heldFault, startTests, startAnswer, startState, startHighest, stepTests, stepAnswer, stepState, stepHighest, reportTests, reported, reportAnswer}
+use Rattle.model.specs.Calls.{oldFault, numbersFault, riverFault, segmentFault, figureFault, startFault, stateFault, heldFault, startTests, startLeft, stepLeft, result, stepTests, reportTests, reported, start, step, report}
 use Rattle.model.specs.Search.{searchTests}
-use Rattle.model.specs.Runs.{Call, start, accepts, after, run, Fed}
-use Rattle.model.specs.Pool.{isOpen, slotOf, stateOf, PoolSearchAnswer, openSegments, roomFault, tableFault, numberFault, sharedFault, poolTests, poolStepTests, poolStepAnswer, poolStep, poolReportTests, poolReportAnswer, poolStepHighest, poolSearchTests, openHighest, closeFinding, closedTable, openTests, openAnswer, covered, coveredBelow, kept, packed, poolOpen}
-use Rattle.model.specs.PoolRuns.{poolAccepts, afterCall, runPool, ownSince, highestSince}
+use Rattle.model.specs.Runs.{LoneCall, accepts, after, run, Fed}
+use Rattle.model.specs.Pool.{isOpen, slotOf, stateOf, PoolSearchAnswer, openSegments, roomFault, tableFault, numberFault, sharedFault, poolTests, poolResult, poolSearchTests, openHighest, closeFinding, closedTable, openTests, openAnswer, covered, coveredBelow, kept, packed, poolOpen}
+use Rattle.model.specs.PoolRuns.{poolAccepts, afterCall, runPool, ownCalls, ownSince, highestSince}
 use Rattle.model.specs.Bench.{bytes, allBytes, zeros, noState, noWork}
 use Rattle.model.specs.FlowBench.{snow, melting}
 use Rattle.model.specs.PoolBench.{sheetWithStart}
-use Rattle.model.specs.Witnesses.{allClosed, river1Step, poolCalls, AllAcceptedOn, river1, SharingMet, ShownBench, meltingFor, meltingStep, meltingSteps, meltingCalls, PoolSearchMet}
+use Rattle.model.specs.Witnesses.{allClosed, poolCalls, AllAcceptedOn, river1With, river1, meltingStart, SharingMet, ShownBench, meltingFor, meltingStep, meltingSteps, meltingCalls, PoolSearchMet}
 use Rattle.model.proofs.Refusals.{fails-passes}
 use Rattle.model.proofs.Witnesses.{melting-fed, all-closed, names-first}
 
 -- what the calls answer, and which are river 1's own
 pool-calls : (AllAcceptedOn allClosed poolCalls) × (ownSince 1 allClosed poolCalls none ≡ some river1)
     × (ownSince 2 allClosed poolCalls none ≡ none)
-unfolding anyBelow sumBelow openSegments roomFault tableFault numberFault sharedFault poolTests poolStepTests poolStepAnswer poolStep poolReportTests poolReportAnswer closeFinding closedTable openTests openAnswer covered coveredBelow kept packed poolOpen poolAccepts afterCall ownSince runPool sheetWithStart allClosed river1Step poolCalls river1 accepts after run meltingFor meltingStep meltingSteps meltingCalls noState lowestFrom lowest anyShorter notRising nearest floorDiv outside anyOutside startsWith field headerField sectionEnd sectionsEnd countAt sheetEnd recordField reachFields reachOf reachOn reaches rowStarts rowConcentrations gauges totalSegments segmentCount alongRiver courseOf reachAt ownGain gain flow siteAt fractions numbers loadedSegment P N F R rowOf newStorage newSediment newFigures downward stepped segmentAt writeSegments figuresAt writeFigures walk startsLate rowFault gaugeFault flowFault faceFault sumFault sheetTests courseTests listTests loadTests loaded loadAnswer loadColumns blocksFault riverFault segmentFault figureFault startFault stateFault heldFault startTests startAnswer startState stepTests stepAnswer stepState reportTests reported reportAnswer bytes allBytes zeros noWork topOf sections edition flowRowCount testFlows numbersFault numbersAt oldFault pairAt lastBegun flowInForce flowRowStart flowRowTop flowRowStarts flowRowTops flowRowFault snow melting
+unfolding anyBelow sumBelow openSegments roomFault tableFault numberFault sharedFault poolTests poolResult closeFinding closedTable openTests openAnswer covered coveredBelow kept packed poolOpen poolAccepts afterCall ownSince runPool sheetWithStart allClosed poolCalls river1With river1 accepts after run meltingFor meltingStart meltingStep meltingSteps meltingCalls noState lowestFrom lowest anyShorter notRising nearest floorDiv outside anyOutside startsWith field headerField sectionEnd sectionsEnd countAt sheetEnd recordField reachFields reachOf reachOn reaches rowStarts rowConcentrations gauges totalSegments segmentCount alongRiver courseOf reachAt ownGain gain flow siteAt fractions numbers loadedSegment P N F R rowOf newStorage newSediment newFigures downward stepped segmentAt writeSegments figuresAt writeFigures walk startsLate rowFault gaugeFault flowFault faceFault sumFault sheetTests courseTests listTests loadTests loaded loadAnswer loadColumns blocksFault riverFault segmentFault figureFault startFault stateFault heldFault startTests startLeft stepLeft result stepTests reportTests reported bytes allBytes zeros noWork topOf sections edition flowRowCount testFlows numbersFault numbersAt oldFault pairAt lastBegun flowInForce flowRowStart flowRowTop flowRowStarts flowRowTops flowRowFault snow melting
 pool-calls = (
   (tt, (tt, (tt, (tt, (tt, (tt, tt)))))),
   refl,
@@ -42,11 +42,11 @@ pool-calls = (
 )
 
 -- what comes behind the first call of a list
-later : {sheet : List ℕ} {state : State} {call : Call} {calls : List Call} → Fed sheet state (call ∷ calls) → Fed sheet (after state call) calls
+later : {sheet : List ℕ} {state : State} {call : LoneCall} {calls : List LoneCall} → Fed sheet state (call ∷ calls) → Fed sheet (after state call) calls
 later (Fed.more lent fed) = fed
 
 pub sharing-met : SharingMet
-unfolding river1 meltingCalls noState meltingFor
+unfolding river1 river1With meltingCalls meltingStart noState meltingFor
 sharing-met = record {
   noneOpen = all-closed;
   allAccepted = pool-calls .0;
@@ -56,7 +56,7 @@ sharing-met = record {
       (opened .alone (noState 2) (record { channel = refl; storage = refl; sediment = refl }) .demand3 (later melting-fed), opened .closes);
   saysClosed = λ claim.
       let closed = rw (pool-calls .2) at (claim allClosed all-closed poolCalls 2 .0) in
-      (closed .starts (zeros 3) (0 ∷ []) 0, closed .steps (zeros 3 .numbers) (zeros 3) (0 ∷ []) (noWork 3) 0 1, closed .reports (zeros 3) 1, closed .closes);
+      (closed .calls (start (zeros 3) (0 ∷ []) 0), closed .calls (step (zeros 3 .numbers) (zeros 3) (0 ∷ []) (noWork 3) 0 1), closed .calls (report (zeros 3) 1), closed .closes);
   saysOpening = λ claim. claim allClosed all-closed poolCalls 2 .1;
 }
 
@@ -70,7 +70,7 @@ river1Highest = highestSince 1 allClosed poolCalls []
 river-1 : let pool = runPool allClosed poolCalls in
     (isOpen (slotOf (pool .table) 1) ≡ true) × (first (poolSearchTests (pool .table) (pool .channel) 1 river1Highest) ≡ passes)
     × (slotOf (pool .table) 1 .segments ≡ 2) × (100 < getD (river1State .channel) 0 0) × (100 < getD river1Highest 0 0)
-unfolding searchTests poolSearchTests highestBelow blockHighest startHighest stepHighest openHighest poolStepHighest highestSince anyBelow sumBelow openSegments roomFault tableFault numberFault sharedFault poolTests poolStepTests poolStepAnswer poolStep poolReportTests poolReportAnswer closeFinding closedTable openTests openAnswer covered coveredBelow kept packed poolOpen poolAccepts afterCall ownSince runPool sheetWithStart allClosed river1Step poolCalls river1 accepts after run meltingFor meltingStep meltingSteps meltingCalls noState lowestFrom lowest anyShorter notRising nearest floorDiv outside anyOutside startsWith field headerField sectionEnd sectionsEnd countAt sheetEnd recordField reachFields reachOf reachOn reaches rowStarts rowConcentrations gauges totalSegments segmentCount alongRiver courseOf reachAt ownGain gain flow siteAt fractions numbers loadedSegment P N F R rowOf newStorage newSediment newFigures downward stepped segmentAt writeSegments figuresAt writeFigures walk startsLate rowFault gaugeFault flowFault faceFault sumFault sheetTests courseTests listTests loadTests loaded loadAnswer loadColumns blocksFault riverFault segmentFault figureFault startFault stateFault heldFault startTests startAnswer startState stepTests stepAnswer stepState reportTests reported reportAnswer bytes allBytes zeros noWork topOf sections edition flowRowCount testFlows numbersFault numbersAt oldFault pairAt lastBegun flowInForce flowRowStart flowRowTop flowRowStarts flowRowTops flowRowFault snow melting
+unfolding searchTests poolSearchTests highestBelow blockHighest startLeft stepLeft result openHighest poolResult highestSince anyBelow sumBelow openSegments roomFault tableFault numberFault sharedFault poolTests closeFinding closedTable openTests openAnswer covered coveredBelow kept packed poolOpen poolAccepts afterCall ownSince runPool sheetWithStart allClosed poolCalls river1With river1 accepts after run meltingFor meltingStart meltingStep meltingSteps meltingCalls noState lowestFrom lowest anyShorter notRising nearest floorDiv outside anyOutside startsWith field headerField sectionEnd sectionsEnd countAt sheetEnd recordField reachFields reachOf reachOn reaches rowStarts rowConcentrations gauges totalSegments segmentCount alongRiver courseOf reachAt ownGain gain flow siteAt fractions numbers loadedSegment P N F R rowOf newStorage newSediment newFigures downward stepped segmentAt writeSegments figuresAt writeFigures walk startsLate rowFault gaugeFault flowFault faceFault sumFault sheetTests courseTests listTests loadTests loaded loadAnswer loadColumns blocksFault riverFault segmentFault figureFault startFault stateFault heldFault startTests stepTests reportTests reported bytes allBytes zeros noWork topOf sections edition flowRowCount testFlows numbersFault numbersAt oldFault pairAt lastBegun flowInForce flowRowStart flowRowTop flowRowStarts flowRowTops flowRowFault snow melting
 river-1 = (refl, refl, refl, lit< tt, lit< tt)
 
 pub pool-search-met : PoolSearchMet
@@ -86,8 +86,8 @@ pool-search-met =
 -- the tables' figures
 tables : let table = runPool allClosed poolCalls .table in
     (closeFinding table 1 ≡ passes) × (isOpen (slotOf table 2) ≡ false) × (slotOf table 1 .steps ≡ 2)
-    × (run (noState 2) (start (meltingFor 0) (0 ∷ []) 3000 ∷ take 1 meltingSteps) .steps ≡ 1)
-unfolding searchTests poolSearchTests highestBelow blockHighest startHighest stepHighest openHighest poolStepHighest highestSince anyBelow sumBelow openSegments roomFault tableFault numberFault sharedFault poolTests poolStepTests poolStepAnswer poolStep poolReportTests poolReportAnswer closeFinding closedTable openTests openAnswer covered coveredBelow kept packed poolOpen poolAccepts afterCall ownSince runPool sheetWithStart allClosed river1Step poolCalls river1 accepts after run meltingFor meltingStep meltingSteps meltingCalls noState lowestFrom lowest anyShorter notRising nearest floorDiv outside anyOutside startsWith field headerField sectionEnd sectionsEnd countAt sheetEnd recordField reachFields reachOf reachOn reaches rowStarts rowConcentrations gauges totalSegments segmentCount alongRiver courseOf reachAt ownGain gain flow siteAt fractions numbers loadedSegment P N F R rowOf newStorage newSediment newFigures downward stepped segmentAt writeSegments figuresAt writeFigures walk startsLate rowFault gaugeFault flowFault faceFault sumFault sheetTests courseTests listTests loadTests loaded loadAnswer loadColumns blocksFault riverFault segmentFault figureFault startFault stateFault heldFault startTests startAnswer startState stepTests stepAnswer stepState reportTests reported reportAnswer bytes allBytes zeros noWork topOf sections edition flowRowCount testFlows numbersFault numbersAt oldFault pairAt lastBegun flowInForce flowRowStart flowRowTop flowRowStarts flowRowTops flowRowFault snow melting
+    × (run (noState 2) (ownCalls (river1With (take 1 meltingSteps))) .steps ≡ 1)
+unfolding searchTests poolSearchTests highestBelow blockHighest startLeft stepLeft result openHighest poolResult highestSince anyBelow sumBelow openSegments roomFault tableFault numberFault sharedFault poolTests closeFinding closedTable openTests openAnswer covered coveredBelow kept packed poolOpen poolAccepts afterCall ownSince runPool sheetWithStart allClosed poolCalls river1With river1 accepts after run meltingFor meltingStart meltingStep meltingSteps meltingCalls noState lowestFrom lowest anyShorter notRising nearest floorDiv outside anyOutside startsWith field headerField sectionEnd sectionsEnd countAt sheetEnd recordField reachFields reachOf reachOn reaches rowStarts rowConcentrations gauges totalSegments segmentCount alongRiver courseOf reachAt ownGain gain flow siteAt fractions numbers loadedSegment P N F R rowOf newStorage newSediment newFigures downward stepped segmentAt writeSegments figuresAt writeFigures walk startsLate rowFault gaugeFault flowFault faceFault sumFault sheetTests courseTests listTests loadTests loaded loadAnswer loadColumns blocksFault riverFault segmentFault figureFault startFault stateFault heldFault startTests stepTests reportTests reported bytes allBytes zeros noWork topOf sections edition flowRowCount testFlows numbersFault numbersAt oldFault pairAt lastBegun flowInForce flowRowStart flowRowTop flowRowStarts flowRowTops flowRowFault snow melting
 tables = (refl, refl, refl, refl)
 
 pub shown-bench : ShownBench

@@ -19,7 +19,7 @@ use Rattle.model.specs.Refusals.{Finding, passes, fails, test, first, answer, o
 use Rattle.model.specs.State.{Columns, columnLists}
 use Rattle.model.specs.Load.{loaded, riverTests, listTests, loadTests, loadAnswer, loadRecords, recordsAfter}
 use Rattle.model.specs.Highest.{blocksFault}
-use Rattle.model.specs.Pool.{Pool, roomFault, tableFault, sharedFault, openTests, openAnswer, openRecords}
+use Rattle.model.specs.Pool.{Pool, sharedLists, roomFault, tableFault, sharedFault, openTests, openAnswer, openRecords}
 use Rattle.model.proofs.Refusals.{first-both, all-pass, test-clear}
 use Rattle.terms.specs.Says.{reachSays}
 use Rattle.terms.specs.declared.Reach as Record
@@ -114,5 +114,5 @@ module _ (sheet : List ℕ) (row : ℕ) (before : List Reach) (columns : Columns
   open-records pool number highest u =
       let front = riverTests sheet ++ (test 17 (roomFault (pool .table) number (segmentCount sheet)) ∷ test 18 (tableFault (pool .table)) ∷ []) in
       let lists = listTests sheet row (length before) columns in
-      let behind = test 13 (sharedFault pool || blocksFault (segmentCount sheet) highest) ∷ test 14 (outside concentration u) ∷ [] in
+      let behind = test 13 (sharedFault (sharedLists pool) || blocksFault (segmentCount sheet) highest) ∷ test 14 (outside concentration u) ∷ [] in
       outcome-fills (openTests sheet row (length before) columns pool number highest u) (λ e. first-both front lists (first-both (front ++ lists) behind e .0) .1)

@@ -15,7 +15,7 @@ use Rattle.model.specs.Refusals.{nothing, Outcome, refused}
 use Rattle.model.specs.Highest.{blockCount, blocksFault}
 use Rattle.model.specs.Calls.{riverFault}
 use Rattle.model.specs.Search.{searchTests, SearchAnswer}
-use Rattle.model.specs.Pool.{Slot, slotOf, numberFault, poolSearchTests, PoolSearchAnswer}
+use Rattle.model.specs.Pool.{Slot, slotOf, numberFault, sharedFault, poolTests, poolSearchTests, PoolSearchAnswer}
 use Rattle.model.proofs.Refusals.{fails-passes}
 use Rattle.model.proofs.Ranges.{inside}
 use Rattle.pool_laws.proofs.Tables.{fault-apart, number-clear}
@@ -61,12 +61,12 @@ pub record Stands (table : List Slot) (channel : List ℕ) (number : ℕ) (x : S
 
 module _ (table : List Slot) (channel : List ℕ) (number : ℕ) (highest : List ℕ) (limit : ℕ) where
   pub refused-18 : numberFault table number ≡ true → PoolSearchAnswer table channel number highest limit (refused 18 nothing)
-  unfolding poolSearchTests
+  unfolding poolSearchTests poolTests
   refused-18 e = record { found = none; finds = rw e (λ q. fails-passes q); is = rw e }
 
   module _ (clear : numberFault table number ≡ false) where
     pub refused-shared : length channel < mostSegments → PoolSearchAnswer table channel number highest limit (refused 13 nothing)
-    unfolding poolSearchTests anyShorter
+    unfolding poolSearchTests poolTests sharedFault anyShorter
     refused-shared h =
         let e = lt-ltb (length channel) mostSegments h in record { found = none; finds = rw (clear, e) (λ q. fails-passes q); is = rw (clear, e) }
 
@@ -81,7 +81,7 @@ module _ (table : List Slot) (channel : List ℕ) (number : ℕ) (highest : List
       -- the tests of the stretch alone decide
       pub on-stretch : (a : Outcome (Option ℕ)) → SearchAnswer (x .segments) (take (x .first + x .segments - x .first) (drop (x .first) channel)) highest limit a →
           PoolSearchAnswer table channel number highest limit a
-      unfolding poolSearchTests
+      unfolding poolSearchTests poolTests sharedFault
       on-stretch a s =
           let q : x .first + x .segments - x .first ≡ x .segments = omega arith in
           let s = rw (q, is) at s in

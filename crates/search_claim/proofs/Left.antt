@@ -15,9 +15,9 @@ use Rattle.model.specs.Ranges.{_to_, outside, mostSegments}
 use Rattle.model.specs.Equations.{Figures}
 use Rattle.model.specs.Sweep.{stepped}
 use Rattle.model.specs.State.{NumberSet, Columns, segmentsOf, pairsOf, State, figuresAt, figuresOf, writeFigures}
-use Rattle.model.specs.Refusals.{Place, Outcome, passes, fails, test, first}
+use Rattle.model.specs.Refusals.{Outcome, passes, test, first}
 use Rattle.model.specs.Highest.{blockCount, blockHighest, highestOf, blocksFault}
-use Rattle.model.specs.Calls.{riverFault, startFigures, startTests, startAnswer, startState, startHighest, Working, stepTests, stepAnswer, stepState, stepHighest}
+use Rattle.model.specs.Calls.{riverFault, startFigures, startTests, startLeft, Working, stepTests, stepLeft}
 use Rattle.model.specs.Search.{searchTests, SearchAnswer, Tells}
 use Rattle.model.proofs.Refusals.{all-pass, test-clear}
 use Rattle.pool_claim.proofs.Lengths.{length-stepped}
@@ -78,43 +78,21 @@ passed-13 n lists highest e =
 -- ---- the calls
 
 module _ (n : ℕ) (columns : Columns) (state : State) (highest : List ℕ) where
-  -- a start's 13
-  start-13 : (u : ℕ) → first (startTests n columns state highest u) ≡ passes → (outside (1 to mostSegments) n ≡ false) × (blocksFault n highest ≡ false)
-  unfolding startTests
-  start-13 u e = passed-13 n _ highest (all-pass (startTests n columns state highest u) e .0)
-
   -- an accepted start
   pub start-left : (u : ℕ) → first (startTests n columns state highest u) ≡ passes →
-      AsLeft n (startState n columns state highest u .channel) (startHighest n columns state highest u)
-  unfolding startHighest startState startAnswer
+      let left = startLeft n columns state highest u in AsLeft n (left .state .channel) (left .highest)
+  unfolding startTests startLeft
   start-left u e =
-      let ok = start-13 u e in
-      rw e (written-left n highest (ok .1) (map startFigures (segmentsOf n columns)) u 0 state
-      (length-map (segmentsOf n columns) startFigures ∙ length-tab _ 0 n) (ok .0))
+      let ok = passed-13 n _ highest (all-pass (startTests n columns state highest u) e .0) in
+      written-left n highest (ok .1) (map startFigures (segmentsOf n columns)) u 0 state
+      (length-map (segmentsOf n columns) startFigures ∙ length-tab _ 0 n) (ok .0)
 
-  -- a refused one leaves the state
-  pub start-still : (u : ℕ) {number : ℕ} {place : Place} → first (startTests n columns state highest u) ≡ fails number place → startState n columns state highest u ≡ state
-  unfolding startState startAnswer
-  start-still u e = rw e
-
-  module _ (old : NumberSet) (working : Working) (u′ M : ℕ) where
-    -- a step's 13
-    step-13 : first (stepTests n old columns state highest working u′ M) ≡ passes → (outside (1 to mostSegments) n ≡ false) × (blocksFault n highest ≡ false)
-    unfolding stepTests
-    step-13 e = passed-13 n _ highest (all-pass (stepTests n old columns state highest working u′ M) e .0)
-
-    -- an accepted step
-    pub step-left : first (stepTests n old columns state highest working u′ M) ≡ passes →
-        AsLeft n (stepState n old columns state highest working u′ M .channel) (stepHighest n old columns state highest working u′ M)
-    unfolding stepHighest stepState stepAnswer
-    step-left e =
-        let ok = step-13 e in
-        let many : length (pairsOf n old columns) ≡ n = length-tab _ 0 n in
-        rw e (written-left n highest (ok .1) (stepped (state .upstream) u′ (pairsOf n old columns) (figuresOf n state)) u′ (suc (state .steps)) state
-        (length-stepped (state .upstream) u′ (pairsOf n old columns) (figuresOf n state) (length-tab (figuresAt state) 0 n ∙ sym many) ∙ many) (ok .0))
-
-    -- a refused one leaves the state
-    pub step-still : {number : ℕ} {place : Place} → first (stepTests n old columns state highest working u′ M) ≡ fails number place →
-        stepState n old columns state highest working u′ M ≡ state
-    unfolding stepState stepAnswer
-    step-still e = rw e
+  -- an accepted step
+  pub step-left : (old : NumberSet) (working : Working) (u′ M : ℕ) → first (stepTests n old columns state highest working u′ M) ≡ passes →
+      let left = stepLeft n old columns state highest working u′ in AsLeft n (left .state .channel) (left .highest)
+  unfolding stepTests stepLeft
+  step-left old working u′ M e =
+      let ok = passed-13 n _ highest (all-pass (stepTests n old columns state highest working u′ M) e .0) in
+      let many : length (pairsOf n old columns) ≡ n = length-tab _ 0 n in
+      written-left n highest (ok .1) (stepped (state .upstream) u′ (pairsOf n old columns) (figuresOf n state)) u′ (suc (state .steps)) state
+      (length-stepped (state .upstream) u′ (pairsOf n old columns) (figuresOf n state) (length-tab (figuresAt state) 0 n ∙ sym many) ∙ many) (ok .0)

@@ -11,16 +11,16 @@ use Rattle.model.specs.Sheet.{segmentCount}
 use Rattle.model.specs.State.{Columns, State, loadedSegments, writeSegments}
 use Rattle.model.specs.Refusals.{passes, first}
 use Rattle.model.specs.Load.{loaded}
-use Rattle.model.specs.Calls.{startAnswer}
-use Rattle.model.specs.Runs.{Call, start, step, report, accepts, after, run}
+use Rattle.model.specs.Calls.{start, leavesHighest}
+use Rattle.model.specs.Runs.{LoneCall, alone, accepts, after, run, OwnLists, HighestFigures, leaves, leftSince}
 use Rattle.model.specs.Search.{Tells}
-use Rattle.model.specs.Pool.{slotOf, Pool, stateOf, openTests, openAnswer, openHighest}
-use Rattle.model.specs.PoolRuns.{PoolCall, opening, starting, stepping, reporting, closing, named, poolAccepts, afterCall, runPool, Own, ownCalls, ownAfter, ownSince, highestLeft, highestSince}
-use Rattle.model.specs.PoolClaim.{OwnLists, Shown}
-use Rattle.model.specs.SearchClaim.{Left, leaves, leftSince, PoolSearchTold}
+use Rattle.model.specs.Pool.{slotOf, Pool, stateOf, poolResult, openTests, openAnswer, openHighest}
+use Rattle.model.specs.PoolRuns.{PoolCall, opening, onRiver, closing, named, poolAccepts, afterCall, runPool, Own, ownCalls, ownAfter, ownSince, highestLeft, highestSince}
+use Rattle.model.specs.PoolClaim.{Shown}
+use Rattle.model.specs.SearchClaim.{PoolSearchTold}
 use Rattle.model.proofs.Refusals.{accepted-passes}
 use Rattle.pool_laws.proofs.Openings.{opening-passed}
-use Rattle.pool_claim.proofs.Opening.{passed, start-highest}
+use Rattle.pool_claim.proofs.Opening.{start-left}
 use Rattle.pool_claim.proofs.Follows.{shown}
 use Rattle.pool_claim.proofs.Claim.{Going, none-going, call-going, sharing}
 use Rattle.search_claim.proofs.Claim.{search-told}
@@ -28,35 +28,36 @@ use Rattle.search_claim.proofs.Claim.{search-told}
 -- ---- what is left after one call more
 
 -- a list of calls and then one more
-left-last : (before : State) (calls : List Call) (call : Call) (left : Option Left) →
+left-last : (before : State) (calls : List LoneCall) (call : LoneCall) (left : Option HighestFigures) →
     leftSince before (calls ++ (call ∷ [])) left
     ≡ cond (accepts (run before calls) call) (leaves (run before calls) call (leftSince before calls left)) (leftSince before calls left)
 unfolding leftSince run
 left-last before [] call left = refl
 left-last before (c ∷ calls) call left = left-last (after before c) calls call _
 
--- a report leaves the same, accepted or not
-same : {A : Type 0} (b : Bool) (x : A) → cond b x x ≡ x
-same true x = refl
-same false x = refl
+-- an accepted call that leaves these, or none: those from before are there then
+new-or-old : (b : Bool) (count : ℕ) (new old : List ℕ) (before : Option HighestFigures) → before ≡ some (record { count = count; highest = old }) →
+    cond b (some (record { count = count; highest = new })) before ≡ some (record { count = count; highest = cond b new old })
+new-or-old true count new old before e = refl
+new-or-old false count new old before e = e
 
 -- ---- a river's own calls, made alone, leave these highest figures
 
 abbrev Leaves : Option Own → (highest : List ℕ) → Type 0
 Leaves none highest = Unit {0}
 Leaves (some own) highest =
-    (before : State) → OwnLists (own .lent .count) before → leftSince before (ownCalls own) none ≡ some (record { count = own .lent .count; highest = highest })
+    (before : State) → OwnLists (own .count) before → leftSince before (ownCalls own) none ≡ some (record { count = own .count; highest = highest })
 
 -- an accepted opening leaves those of the start that its river begins with
 open-leaves : (pool : Pool) (number : ℕ) (sheet : List ℕ) (r records : ℕ) (columns : Columns) (highest : List ℕ) (u : ℕ) →
     first (openTests sheet r records columns pool number highest u) ≡ passes →
     (before : State) → OwnLists (segmentCount sheet) before →
-    leftSince before (start (record { count = segmentCount sheet; columns = writeSegments (loadedSegments sheet r) columns }) highest u ∷ []) none
+    leftSince before (alone (segmentCount sheet) (start (writeSegments (loadedSegments sheet r) columns) highest u) ∷ []) none
     ≡ some (record { count = segmentCount sheet; highest = openHighest sheet r records columns pool number highest u })
-unfolding leftSince accepts startAnswer openHighest openAnswer
+unfolding leftSince accepts openHighest openAnswer
 open-leaves pool number sheet r records columns highest u e before lists =
     let p = opening-passed pool number sheet r records columns highest u e in
-    rw (e, passed pool number sheet r records columns highest u p before lists, start-highest pool number sheet r records columns highest u p before lists)
+    rw (e, start-left pool number sheet r records columns highest u p before lists)
 
 -- an accepted call of the river leaves those that it would leave alone
 call-leaves : (pool : Pool) (call : PoolCall) (own : Option Own) (highest : List ℕ) → Shown pool (named call) own → poolAccepts pool call ≡ true → Leaves own highest →
@@ -64,20 +65,12 @@ call-leaves : (pool : Pool) (call : PoolCall) (own : Option Own) (highest : List
 unfolding poolAccepts accepts openAnswer
 call-leaves pool (opening number sheet r records columns lent u) own highest x e l =
     open-leaves pool number sheet r records columns lent u (accepted-passes (openTests sheet r records columns pool number lent u) (loaded sheet) (rw e tt))
-call-leaves pool (starting number columns lent u) none highest x e l = tt
-call-leaves pool (starting number columns lent u) (some own) highest x e l = λ before lists.
-    let alone = x .alone before lists in
-    left-last before (ownCalls own) (start (record { count = slotOf (pool .table) number .segments; columns = columns }) lent u) none
-    ∙ rw (x .segments, ← (alone .starts columns lent u), e, ← (alone .startsHighest columns lent u))
-call-leaves pool (stepping number old new lent working u′ M) none highest x e l = tt
-call-leaves pool (stepping number old new lent working u′ M) (some own) highest x e l = λ before lists.
-    let alone = x .alone before lists in
-    left-last before (ownCalls own) (step old (record { count = slotOf (pool .table) number .segments; columns = new }) lent working u′ M) none
-    ∙ rw (x .segments, ← (alone .steps old new lent working u′ M), e, ← (alone .stepsHighest old new lent working u′ M))
-call-leaves pool (reporting number columns segment) none highest x e l = tt
-call-leaves pool (reporting number columns segment) (some own) highest x e l = λ before lists.
-    let call = report (record { count = slotOf (pool .table) number .segments; columns = columns }) segment in
-    left-last before (ownCalls own) call none ∙ same (accepts (run before (ownCalls own)) call) (leftSince before (ownCalls own) none) ∙ l before lists
+call-leaves pool (onRiver number call) none highest x e l = tt
+call-leaves pool (onRiver number call) (some own) highest x e l = λ before lists.
+    let alike = x .alone before lists .calls call in
+    left-last before (ownCalls own) (alone (slotOf (pool .table) number .segments) call) none
+    ∙ rw (x .segments, ← (alike .answer), e, ← (alike .highest))
+    (new-or-old (leavesHighest call) (own .count) (poolResult pool number call .left .highest) highest (leftSince before (ownCalls own) none) (l before lists))
 call-leaves pool (closing number) own highest x e l = tt
 
 -- a list of calls, of all rivers: those of the others and refused ones do not count
@@ -119,7 +112,7 @@ pool-search-told before none-open calls number low high opened limit answer s =
     go : (own : Option Own) → Shown pool number own → Leaves own highest → Tells (slotOf (pool .table) number .segments) (stateOf pool number .channel) limit answer
     go none x l = absurd (true≢false (sym opened ∙ x .closed low high))
     go (some own) x l =
-        let n = own .lent .count in
+        let n = own .count in
         let lists = zero-lists n in
         let alone = x .alone (zeroState n) lists in
         let told = search-told (zeroState n) (ownCalls own) _ (l (zeroState n) lists) limit answer (alone .searches highest limit answer s) in

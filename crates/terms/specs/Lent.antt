@@ -8,7 +8,7 @@ use Rattle.lists.specs.Lists.{tab}
 use Rattle.model.specs.Ranges.{mostRivers}
 use Rattle.model.specs.HalfStep.{mapTen}
 use Rattle.model.specs.State.{NumberSet, Columns, State}
-use Rattle.model.specs.Calls.{Working}
+use Rattle.model.specs.Calls.{Working, Left}
 use Rattle.model.specs.Pool.{Slot, Pool}
 
 -- a set: its ten lists
@@ -47,6 +47,10 @@ state at channel storage sediment upstream steps =
 -- the working lists of a step
 abbrev pub working : {A : Type 0} → (A → List ℕ) → (p y : A) → Working
 working at p y = record { p = at p; y = at y }
+
+-- what a call leaves: the state or the pool, the highest figures and the working lists
+abbrev pub left : {S : Type 0} → S → (highest : List ℕ) → Working → Left S
+left state highest working = record { state = state; highest = highest; working = working }
 
 -- a table is lent as forty numbers, five for each slot: the slot at place i
 abbrev pub slotIn : List ℕ → ℕ → Slot

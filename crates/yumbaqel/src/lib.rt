@@ -11,8 +11,8 @@ ghost use Rattle.model.specs.Sheet.{dt, dx, rowStarts, rowConcentrations, gauge
 ghost use Rattle.model.specs.Ranges.{gaugeSection, mostSegments};
 ghost use Rattle.model.specs.Flow.{flowInForce};
 ghost use Rattle.model.specs.Load.{loadAnswer, loadColumns, loadRecords};
-ghost use Rattle.model.specs.Pool.{poolStartAnswer, poolStart, poolStartHighest, poolStepAnswer, poolStep, poolStepHighest, poolStepWorking, poolReportAnswer, PoolSearchAnswer, closeFinding, closedTable, openAnswer, openColumns, openRecords, poolOpen, openHighest};
-ghost use Rattle.model.specs.Calls.{startAnswer, startState, startHighest, stepAnswer, stepState, stepHighest, stepWorking, reportAnswer};
+ghost use Rattle.model.specs.Pool.{poolResult, PoolSearchAnswer, closeFinding, closedTable, openAnswer, openColumns, openRecords, poolOpen, openHighest};
+ghost use Rattle.model.specs.Calls.{noWorking, Call, result};
 ghost use Rattle.model.specs.Search.{SearchAnswer};
 ghost use Rattle.model.specs.Upstream.{upstreamAnswer};
 ghost use Rattle.model.specs.Highest.{blockCount};
@@ -21,10 +21,10 @@ ghost use Rattle.model.specs.PoolClaim.{Sharing, OpenedLists};
 ghost use Rattle.model.specs.SearchClaim.{SearchTold, PoolSearchTold};
 ghost use Rattle.terms.specs.Says.{reachSays};
 ghost use Rattle.lists.specs.Lent.{entry, exit};
-ghost use Rattle.terms.specs.Lent.{set, columns, state, working, tableIn, pool};
+ghost use Rattle.terms.specs.Lent.{set, columns, state, working, left, tableIn, pool};
 ghost use Rattle.sheet.specs.Rows.{rowListTest, rowListAfter};
 ghost use Rattle.otis.specs.Outcomes.{handed};
-ghost use Rattle.answers.specs.Answers.{foundBy, Told, loadedValues, SearchHanded};
+ghost use Rattle.answers.specs.Answers.{foundBy, Told, Handed, ReportHanded, loadedValues, SearchHanded};
 use answers::finding_of;
 use answers::put_finding;
 use answers::put_load;
@@ -197,12 +197,9 @@ pub extern "C" fn yumbaqel_start<'a>(
     done: &mut u32,
     u: u32,
 )
-    ensures answer { λ _. ⌜ Told (foundBy (startAnswer n (columns entry e g l a b k ks h m s cl cb kd start)
-        (state entry channel storage sediment (entry upstream) (entry done)) (entry highest) u)) (exit number) (exit kind) (exit place) ⌝ }
-    ensures state { λ _. ⌜ state exit channel storage sediment (exit upstream) (exit done) ≡ startState n
-        (columns entry e g l a b k ks h m s cl cb kd start) (state entry channel storage sediment (entry upstream) (entry done)) (entry highest) u ⌝ }
-    ensures highest { λ _. ⌜ exit highest ≡ startHighest n (columns entry e g l a b k ks h m s cl cb kd start)
-        (state entry channel storage sediment (entry upstream) (entry done)) (entry highest) u ⌝ }
+    ensures { λ _. ⌜ Handed (result n (state entry channel storage sediment (entry upstream) (entry done))
+        (Call.start (columns entry e g l a b k ks h m s cl cb kd start) (entry highest) u))
+        (exit number) (exit kind) (exit place) (left (state exit channel storage sediment (exit upstream) (exit done)) (exit highest) noWorking) ⌝ }
 {
     let answer = River::start(
         n,
@@ -260,15 +257,9 @@ pub extern "C" fn yumbaqel_step<'a>(
     u: u32,
     steps: u32,
 )
-    ensures answer { λ _. ⌜ Told (foundBy (stepAnswer n (set entry e0 g0 l0 a0 b0 k0 ks0 h0 m0 s0) (columns entry e g l a b k ks h m s cl cb kd start)
-        (state entry channel storage sediment (entry upstream) (entry done)) (entry highest) (working entry p y) u steps)) (exit number) (exit kind) (exit place) ⌝ }
-    ensures state { λ _. ⌜ state exit channel storage sediment (exit upstream) (exit done) ≡ stepState n (set entry e0 g0 l0 a0 b0 k0 ks0 h0 m0 s0)
-        (columns entry e g l a b k ks h m s cl cb kd start) (state entry channel storage sediment (entry upstream) (entry done))
-        (entry highest) (working entry p y) u steps ⌝ }
-    ensures highest { λ _. ⌜ exit highest ≡ stepHighest n (set entry e0 g0 l0 a0 b0 k0 ks0 h0 m0 s0) (columns entry e g l a b k ks h m s cl cb kd start)
-        (state entry channel storage sediment (entry upstream) (entry done)) (entry highest) (working entry p y) u steps ⌝ }
-    ensures working { λ _. ⌜ working exit p y ≡ stepWorking n (set entry e0 g0 l0 a0 b0 k0 ks0 h0 m0 s0) (columns entry e g l a b k ks h m s cl cb kd start)
-        (state entry channel storage sediment (entry upstream) (entry done)) (entry highest) (working entry p y) u steps ⌝ }
+    ensures { λ _. ⌜ Handed (result n (state entry channel storage sediment (entry upstream) (entry done))
+        (Call.step (set entry e0 g0 l0 a0 b0 k0 ks0 h0 m0 s0) (columns entry e g l a b k ks h m s cl cb kd start) (entry highest) (working entry p y) u steps))
+        (exit number) (exit kind) (exit place) (left (state exit channel storage sediment (exit upstream) (exit done)) (exit highest) (working exit p y)) ⌝ }
 {
     let river = River {
         upstream: *upstream,
@@ -322,14 +313,8 @@ pub extern "C" fn yumbaqel_report<'a>(
     done: u32,
     segment: u32,
 )
-    ensures answer { λ _. ⌜ Told (foundBy (reportAnswer n (columns entry e g l a b k ks h m s cl cb kd start)
-        (state entry channel storage sediment upstream done) segment)) (exit number) (exit kind) (exit place) ⌝ }
-    ensures c { λ _. ⌜ exit c ≡ handed (reportAnswer n (columns entry e g l a b k ks h m s cl cb kd start)
-        (state entry channel storage sediment upstream done) segment) (λ v. v .channel) (entry c) ⌝ }
-    ensures z { λ _. ⌜ exit z ≡ handed (reportAnswer n (columns entry e g l a b k ks h m s cl cb kd start)
-        (state entry channel storage sediment upstream done) segment) (λ v. v .storage) (entry z) ⌝ }
-    ensures kdw { λ _. ⌜ exit kdw ≡ handed (reportAnswer n (columns entry e g l a b k ks h m s cl cb kd start)
-        (state entry channel storage sediment upstream done) segment) (λ v. v .sediment) (entry kdw) ⌝ }
+    ensures { λ _. ⌜ ReportHanded (result n (state entry channel storage sediment upstream done) (Call.report (columns entry e g l a b k ks h m s cl cb kd start) segment) .answer)
+        (exit number) (exit kind) (exit place) (entry c) (entry z) (entry kdw) (exit c) (exit z) (exit kdw) ⌝ }
 {
     let river = River {
         upstream: upstream,
@@ -393,12 +378,8 @@ pub extern "C" fn yumbaqel_pool_start<'a>(
     table: &mut Table,
     u: u32,
 )
-    ensures answer { λ _. ⌜ Told (foundBy (poolStartAnswer (pool entry channel storage sediment table) river (columns entry e g l a b k ks h m s cl cb kd start) (entry highest) u))
-        (exit number) (exit kind) (exit place) ⌝ }
-    ensures pool { λ _. ⌜ pool exit channel storage sediment table ≡ poolStart (pool entry channel storage sediment table) river
-        (columns entry e g l a b k ks h m s cl cb kd start) (entry highest) u ⌝ }
-    ensures highest { λ _. ⌜ exit highest ≡ poolStartHighest (pool entry channel storage sediment table) river
-        (columns entry e g l a b k ks h m s cl cb kd start) (entry highest) u ⌝ }
+    ensures { λ _. ⌜ Handed (poolResult (pool entry channel storage sediment table) river (Call.start (columns entry e g l a b k ks h m s cl cb kd start) (entry highest) u))
+        (exit number) (exit kind) (exit place) (left (pool exit channel storage sediment table) (exit highest) noWorking) ⌝ }
 {
     let answer = pool::start(
         river,
@@ -455,14 +436,9 @@ pub extern "C" fn yumbaqel_pool_step<'a>(
     u: u32,
     steps: u32,
 )
-    ensures answer { λ _. ⌜ Told (foundBy (poolStepAnswer (pool entry channel storage sediment table) river (set entry e0 g0 l0 a0 b0 k0 ks0 h0 m0 s0)
-        (columns entry e g l a b k ks h m s cl cb kd start) (entry highest) (working entry p y) u steps)) (exit number) (exit kind) (exit place) ⌝ }
-    ensures pool { λ _. ⌜ pool exit channel storage sediment table ≡ poolStep (pool entry channel storage sediment table) river
-        (set entry e0 g0 l0 a0 b0 k0 ks0 h0 m0 s0) (columns entry e g l a b k ks h m s cl cb kd start) (entry highest) (working entry p y) u steps ⌝ }
-    ensures highest { λ _. ⌜ exit highest ≡ poolStepHighest (pool entry channel storage sediment table) river
-        (set entry e0 g0 l0 a0 b0 k0 ks0 h0 m0 s0) (columns entry e g l a b k ks h m s cl cb kd start) (entry highest) (working entry p y) u steps ⌝ }
-    ensures working { λ _. ⌜ working exit p y ≡ poolStepWorking (pool entry channel storage sediment table) river
-        (set entry e0 g0 l0 a0 b0 k0 ks0 h0 m0 s0) (columns entry e g l a b k ks h m s cl cb kd start) (entry highest) (working entry p y) u steps ⌝ }
+    ensures { λ _. ⌜ Handed (poolResult (pool entry channel storage sediment table) river
+        (Call.step (set entry e0 g0 l0 a0 b0 k0 ks0 h0 m0 s0) (columns entry e g l a b k ks h m s cl cb kd start) (entry highest) (working entry p y) u steps))
+        (exit number) (exit kind) (exit place) (left (pool exit channel storage sediment table) (exit highest) (working exit p y)) ⌝ }
 {
     let answer = pool::step(
         river,
@@ -512,14 +488,8 @@ pub extern "C" fn yumbaqel_pool_report<'a>(
     table: &Table,
     segment: u32,
 )
-    ensures answer { λ _. ⌜ Told (foundBy (poolReportAnswer (pool entry channel storage sediment table) river
-        (columns entry e g l a b k ks h m s cl cb kd start) segment)) (exit number) (exit kind) (exit place) ⌝ }
-    ensures c { λ _. ⌜ exit c ≡ handed (poolReportAnswer (pool entry channel storage sediment table) river
-        (columns entry e g l a b k ks h m s cl cb kd start) segment) (λ v. v .channel) (entry c) ⌝ }
-    ensures z { λ _. ⌜ exit z ≡ handed (poolReportAnswer (pool entry channel storage sediment table) river
-        (columns entry e g l a b k ks h m s cl cb kd start) segment) (λ v. v .storage) (entry z) ⌝ }
-    ensures kdw { λ _. ⌜ exit kdw ≡ handed (poolReportAnswer (pool entry channel storage sediment table) river
-        (columns entry e g l a b k ks h m s cl cb kd start) segment) (λ v. v .sediment) (entry kdw) ⌝ }
+    ensures { λ _. ⌜ ReportHanded (poolResult (pool entry channel storage sediment table) river (Call.report (columns entry e g l a b k ks h m s cl cb kd start) segment) .answer)
+        (exit number) (exit kind) (exit place) (entry c) (entry z) (entry kdw) (exit c) (exit z) (exit kdw) ⌝ }
 {
     let answer = pool::report(
         river,

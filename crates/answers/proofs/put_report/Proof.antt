@@ -5,10 +5,16 @@ use Rattle.answers.proofs.put_report.Statement.{statement}
 use Rattle.answers.proofs.put_report.Tie as tie
 
 returns : tie.Need-returns
-returns c = rw (c .before .before .before .before .before .answer .given .1) (record { number = c .put-refusal .ensures .0; kind = c .put-refusal .ensures .1 .0; place = c .put-refusal .ensures .1 .1 }, (refl, (refl, refl)))
+returns c =
+    let put = c .put-refusal .ensures in
+    rw (c .before .before .before .before .before .answer .given .1)
+    (record { told = record { number = put .0; kind = put .1 .0; place = put .1 .1 }; channel = refl; storage = refl; sediment = refl })
 
 returns-2 : tie.Need-returns-2
-returns-2 c = rw (c .before .before .before .before .before .answer2 .given .1) (record { number = c .put-refusal2 .ensures .0; kind = c .put-refusal2 .ensures .1 .0; place = c .put-refusal2 .ensures .1 .1 }, (refl, (refl, refl)))
+returns-2 c =
+    let put = c .put-refusal2 .ensures in
+    rw (c .before .before .before .before .before .answer2 .given .1)
+    (record { told = record { number = put .0; kind = put .1 .0; place = put .1 .1 }; channel = refl; storage = refl; sediment = refl })
 
 pub put-report-spec : {M : Type 1} → statement M
 put-report-spec =

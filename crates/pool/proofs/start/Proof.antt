@@ -3,11 +3,13 @@ use mathlib.Core.Path.{_≡_, refl, sym, ap, _∙_}
 use native.Mathlib.Omega.{arith}
 use Rattle.lists.specs.Lent.{plain}
 use Rattle.model.specs.Refusals.{passes, first}
-use Rattle.model.specs.Pool.{Pool, slotOf, poolTests}
+use Rattle.model.specs.Calls.{start}
+use Rattle.model.specs.Pool.{Pool, slotOf}
+use Rattle.pool_laws.proofs.Answers.{frontTests, refused-in-front}
 use Rattle.terms.specs.Says.{findingSays}
 use Rattle.terms.specs.Lent.{columnsOf, pool}
 use Rattle.pool_table.specs.Says.{slotSays}
-use Rattle.pool.proofs.Stretched.{Stands, stands, start-answer, start-pool, start-highest, no-start, no-started, no-start-highest}
+use Rattle.pool.proofs.Stretched.{Stands, stands, started}
 use borrow.Author.Needs.{needs}
 use Rattle.pool.proofs.start.Statement.{statement}
 use Rattle.pool.proofs.start.Tie as tie
@@ -17,8 +19,8 @@ abbrev entry : tie.After-pool-test → tie.Start
 entry d = d .before .before .before .before .before .before .before .before .before
 
 -- from the end: the river's own start, and its slot
-abbrev started : tie.After-keep-arg → tie.After-start
-started c = c .before .before .before .before .before .before .before .before .before
+abbrev called : tie.After-keep-arg → tie.After-start
+called c = c .before .before .before .before .before .before .before .before .before
 
 abbrev slot : tie.After-start → tie.After-taken
 slot c = c .before .before .before .before .before .before .before
@@ -28,7 +30,7 @@ abbrev lent : tie.Start → Pool
 lent s = pool plain (s .args .channel .now) (s .args .storage .now) (s .args .sediment .now) (s .args .table .now)
 
 -- the pool's own tests pass, and the slot stands in the lists
-passed : (c : tie.After-enum-told) → let s = entry (c .before .before) in first (poolTests (lent s) (s .args .river)) ≡ passes
+passed : (c : tie.After-enum-told) → let s = entry (c .before .before) in first (frontTests (lent s) (s .args .river)) ≡ passes
 passed c = sym (c .before .before .pool-test .ensures) ∙ ap findingSays (c .enum-told .given .1)
 
 named : (c : tie.After-enum-told) → let s = entry (c .before .before) in Stands (lent s) (s .args .river) (slotOf (lent s .table) (s .args .river))
@@ -42,11 +44,7 @@ returns c =
     let d = c .before .before .before in
     let s = entry d in
     let fault = sym (d .pool-test .ensures) ∙ ap findingSays (c .before .found .given .1) in
-    let columns = columnsOf (s .args .numbers) (s .args .fixed) in
-    let highest = s .args .highest .now in (
-      sym (no-start (lent s) (s .args .river) fault columns highest (s .args .u)),
-      (sym (no-started (lent s) (s .args .river) fault columns highest (s .args .u)), sym (no-start-highest (lent s) (s .args .river) fault columns highest (s .args .u))),
-    )
+    sym (refused-in-front (lent s) (s .args .river) (start (columnsOf (s .args .numbers) (s .args .fixed)) (s .args .highest .now) (s .args .u)) fault)
 
 sub-at : tie.Need-sub-at
 sub-at c = named c .from
@@ -62,16 +60,10 @@ part-start-end-3 c = let s = at (c .before .before .before .before) in omega (ar
 
 returns-2 : tie.Need-returns-2
 returns-2 c =
-    let o = started (c .before) in
+    let o = called (c .before) in
     let t = slot o in
     let s = entry (t .before .before .before .before) in
-    let x = slotSays (t .taken .result) in
-    let e = t .taken .ensures in
-    let pass = passed (t .before .before) in
-    let o = o .start .ensures in (
-      start-answer (lent s) (s .args .river) x e pass _ _ _ _ _ _ _ _ o,
-      (start-pool (lent s) (s .args .river) x e pass _ _ _ _ _ _ _ _ o _ (c .keep .ensures), start-highest (lent s) (s .args .river) x e pass _ _ _ _ _ _ _ _ o),
-    )
+    started (lent s) (s .args .river) (slotSays (t .taken .result)) (t .taken .ensures) (passed (t .before .before)) _ _ _ _ _ _ _ (c .keep .ensures) _ _ _ (o .start .ensures _ _)
 
 pub start-spec : {M : Type 1} → statement M
 start-spec =

@@ -3,11 +3,13 @@ use mathlib.Core.Path.{_≡_, refl, sym, ap, _∙_}
 use native.Mathlib.Omega.{arith}
 use Rattle.lists.specs.Lent.{plain}
 use Rattle.model.specs.Refusals.{passes, first}
-use Rattle.model.specs.Pool.{Pool, slotOf, poolTests}
+use Rattle.model.specs.Calls.{step}
+use Rattle.model.specs.Pool.{Pool, slotOf}
+use Rattle.pool_laws.proofs.Answers.{frontTests, refused-in-front}
 use Rattle.terms.specs.Says.{findingSays}
 use Rattle.terms.specs.Lent.{setOf, columnsOf, working, pool}
 use Rattle.pool_table.specs.Says.{slotSays}
-use Rattle.pool.proofs.Stretched.{Stands, stands, step-answer, step-pool, step-highest, step-working, no-step, no-stepped, no-step-highest, no-worked}
+use Rattle.pool.proofs.Stretched.{Stands, stands, stepped}
 use borrow.Author.Needs.{needs}
 use Rattle.pool.proofs.step.Statement.{statement}
 use Rattle.pool.proofs.step.Tie as tie
@@ -17,8 +19,8 @@ abbrev entry : tie.After-pool-test → tie.Start
 entry d = d .before .before .before .before .before .before .before .before .before .before .before
 
 -- from the end: the river's own step, and its slot
-abbrev stepped : tie.After-keep-arg → tie.After-step
-stepped c = c .before .before .before .before .before .before .before .before .before .before .before .before .before
+abbrev called : tie.After-keep-arg → tie.After-step
+called c = c .before .before .before .before .before .before .before .before .before .before .before .before .before
 
 abbrev slot : tie.After-step → tie.After-taken
 slot c = c .before .before .before .before .before .before .before .before .before
@@ -28,7 +30,7 @@ abbrev lent : tie.Start → Pool
 lent s = pool plain (s .args .channel .now) (s .args .storage .now) (s .args .sediment .now) (s .args .table .now)
 
 -- the pool's own tests pass, and the slot stands in the lists
-passed : (c : tie.After-enum-told) → let s = entry (c .before .before) in first (poolTests (lent s) (s .args .river)) ≡ passes
+passed : (c : tie.After-enum-told) → let s = entry (c .before .before) in first (frontTests (lent s) (s .args .river)) ≡ passes
 passed c = sym (c .before .before .pool-test .ensures) ∙ ap findingSays (c .enum-told .given .1)
 
 named : (c : tie.After-enum-told) → let s = entry (c .before .before) in Stands (lent s) (s .args .river) (slotOf (lent s .table) (s .args .river))
@@ -45,16 +47,7 @@ returns c =
     let old = setOf (s .args .old) in
     let new = columnsOf (s .args .new) (s .args .fixed) in
     let lists = working plain (s .args .p .now) (s .args .y .now) in
-    let highest = s .args .highest .now in (
-      sym (no-step (lent s) (s .args .river) fault old new highest lists (s .args .u) (s .args .steps)),
-      (
-        sym (no-stepped (lent s) (s .args .river) fault old new highest lists (s .args .u) (s .args .steps)),
-        (
-          sym (no-step-highest (lent s) (s .args .river) fault old new highest lists (s .args .u) (s .args .steps)),
-          sym (no-worked (lent s) (s .args .river) fault old new highest lists (s .args .u) (s .args .steps)),
-        ),
-      ),
-    )
+    sym (refused-in-front (lent s) (s .args .river) (step old new (s .args .highest .now) lists (s .args .u) (s .args .steps)) fault)
 
 sub-at : tie.Need-sub-at
 sub-at c = named c .from
@@ -70,19 +63,10 @@ part-step-end-3 c = let s = at (c .before .before .before .before) in omega (ari
 
 returns-2 : tie.Need-returns-2
 returns-2 c =
-    let o = stepped (c .before) in
+    let o = called (c .before) in
     let t = slot o in
     let s = entry (t .before .before .before .before) in
-    let x = slotSays (t .taken .result) in
-    let e = t .taken .ensures in
-    let pass = passed (t .before .before) in
-    let o = o .step .ensures in (
-      step-answer (lent s) (s .args .river) x e pass _ _ _ _ _ _ _ _ _ _ _ _ o,
-      (
-        step-pool (lent s) (s .args .river) x e pass _ _ _ _ _ _ _ _ _ _ _ _ o _ (c .keep .ensures),
-        (step-highest (lent s) (s .args .river) x e pass _ _ _ _ _ _ _ _ _ _ _ _ o, step-working (lent s) (s .args .river) x e pass _ _ _ _ _ _ _ _ _ _ _ _ o),
-      ),
-    )
+    stepped (lent s) (s .args .river) (slotSays (t .taken .result)) (t .taken .ensures) (passed (t .before .before)) _ _ _ _ _ _ _ (c .keep .ensures) _ _ _ _ _ _ (o .step .ensures)
 
 pub step-spec : {M : Type 1} → statement M
 step-spec =

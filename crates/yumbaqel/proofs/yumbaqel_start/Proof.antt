@@ -1,13 +1,13 @@
 -- `yumbaqel_start` meets its contract.
 use borrow.Author.Needs.{needs}
+use Rattle.yumbaqel.proofs.Handed.{told-left}
 use Rattle.yumbaqel.proofs.yumbaqel_start.Statement.{statement}
 use Rattle.yumbaqel.proofs.yumbaqel_start.Tie as tie
 
 returns : tie.Need-returns
 returns c =
-    let outcome = c .before .before .before .before .before .before .before .before .before .before .before .before .before .before .start .ensures _ _ in
     let put = c .put-river .ensures in
-    (rw (outcome .answer) at (put .0), (rw (put .1 .0, put .1 .1) (outcome .state), outcome .highest))
+    rw (put .1 .0, put .1 .1) (told-left (c .before .before .before .before .before .before .before .before .before .before .before .before .before .before .start .ensures _ _) (put .0))
 
 pub yumbaqel-start-spec : {M : Type 1} → statement M
 yumbaqel-start-spec =
