@@ -12,8 +12,8 @@ use Rattle.model.specs.Sheet.{segmentCount}
 use Rattle.model.specs.Equations.{Figures}
 use Rattle.model.specs.ExactRiver.{ExactFigures}
 use Rattle.model.specs.State.{NumberSet, Columns, loadedSegments, State, figuresOf, writeFigures}
-use Rattle.model.specs.Refusals.{Finding, passes, fails, isAccepted, first, answer}
-use Rattle.model.specs.Calls.{Working, startTests, startLeft, stepTests, stepLeft, Call, start, step, report, callTests, callValues, callLeft, callLent, leftAfter, result}
+use Rattle.model.specs.Refusals.{Finding, passes, fails, isAccepted, first, answer, leftAfter}
+use Rattle.model.specs.Calls.{Working, startTests, startLeft, stepTests, stepLeft, Call, start, step, report, callTests, callValues, callLeft, callLent, result}
 use Rattle.model.specs.Runs.{LoneCall, alone, accepts, after, run, AsLoaded, PairAsLoaded, LentFrom, Fed, started, moved, event, events, Exact, exactStart, sheetPairs, ExactEvent, ExactRun}
 use Rattle.exact_laws.specs.Close.{Close}
 use Rattle.exact_laws.proofs.Close.{start-close, close-length}

@@ -3,8 +3,8 @@ use mathlib.Core.Path.{_≡_, refl, ap}
 use Prim.Native.Nat.{ℕ}
 use native.Mathlib.Omega.{arith}
 use Rattle.model.specs.State.{State}
-use Rattle.model.specs.Refusals.{Place, accepted, refused, Finding, passes, fails, first, answer}
-use Rattle.model.specs.Calls.{Call, start, step, report, callTests, callValues, callLeft, callLent, leftAfter, result}
+use Rattle.model.specs.Refusals.{Place, accepted, refused, Finding, passes, fails, first, answer, leftAfter}
+use Rattle.model.specs.Calls.{Call, start, step, report, callTests, callValues, callLeft, callLent, result}
 
 -- what a call is lent beside the state does not rest on the state
 pub lent-beside : {S T : Type 0} (x : S) (y : T) (call : Call) →

@@ -9,7 +9,7 @@ use Rattle.model.specs.HalfStep.{Numbers, Segment}
 use Rattle.model.specs.Equations.{Figures}
 use Rattle.model.specs.Sweep.{downward, stepped}
 use Rattle.model.specs.State.{NumberSet, setLists, numbersAt, Columns, columnLists, segmentAt, segmentsOf, pairsOf, State, stateLists, figuresAt, figuresOf, writeFigures}
-use Rattle.model.specs.Refusals.{segment, Outcome, accepted, refused, Finding, test, testEach, outcomeOf}
+use Rattle.model.specs.Refusals.{segment, Outcome, Finding, test, testEach, outcomeOf, leftAfter}
 use Rattle.model.specs.Load.{sumFault}
 use Rattle.model.specs.Highest.{highestOf, blocksFault}
 
@@ -174,11 +174,6 @@ callLent state (report columns number) = record { state = state; highest = []; w
 pub record Result (S A : Type 0) : Type 0 where
   pub answer : Outcome A
   pub left : Left S
-
--- "Only an accepted call writes, and only the first entries it needs."
-abbrev pub leftAfter : {A B : Type 0} → Outcome A → (lent written : B) → B
-leftAfter (accepted v) lent written = written
-leftAfter (refused number place) lent written = lent
 
 -- the outcome of a call with these tests
 abbrev pub resultOf : {S A : Type 0} → List Finding → A → (lent written : Left S) → Result S A

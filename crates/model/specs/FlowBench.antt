@@ -8,6 +8,7 @@ use lib.ListN.{getD, replicate}
 use Rattle.fractions.specs.Fractions.{whole}
 use Rattle.model.specs.Sheet.{otr2}
 use Rattle.model.specs.Flow.{flowInForce}
+use Rattle.model.specs.HalfStep.{ten, mapTen}
 use Rattle.model.specs.Equations.{Pair}
 use Rattle.model.specs.ExactRiver.{ExactFigures, ExactStep}
 use Rattle.model.specs.State.{NumberSet, Columns, State}
@@ -64,18 +65,9 @@ newE n = sheetPair melting n 0 .new .e
 
 -- a set of two segments, with this list of e
 unfoldable pub oldSetWith : List ℕ → NumberSet
-oldSetWith e = record {
-  e = e;
-  g = 50000000 ∷ 0 ∷ [];
-  l = 30000000 ∷ 20000000 ∷ [];
-  a = 70000000 ∷ 80000000 ∷ [];
-  b = 200000000 ∷ 100000000 ∷ [];
-  k = 10000000 ∷ 15000000 ∷ [];
-  ks = 20000000 ∷ 30000000 ∷ [];
-  h = 300000000 ∷ 200000000 ∷ [];
-  m = 40000000 ∷ 50000000 ∷ [];
-  s = 60000000 ∷ 70000000 ∷ [];
-}
+oldSetWith e =
+    ten e (50000000 ∷ 0 ∷ []) (30000000 ∷ 20000000 ∷ []) (70000000 ∷ 80000000 ∷ []) (200000000 ∷ 100000000 ∷ []) (10000000 ∷ 15000000 ∷ [])
+    (20000000 ∷ 30000000 ∷ []) (300000000 ∷ 200000000 ∷ []) (40000000 ∷ 50000000 ∷ []) (60000000 ∷ 70000000 ∷ [])
 
 -- the old set of the step
 unfoldable pub oldSet : NumberSet
@@ -84,18 +76,9 @@ oldSet = oldSetWith (100000000 ∷ 90000000 ∷ [])
 -- its new set, with CL and CB
 unfoldable pub newColumns : Columns
 newColumns = record {
-  numbers = record {
-    e = 160000000 ∷ 120000000 ∷ [];
-    g = 20000000 ∷ 0 ∷ [];
-    l = 10000000 ∷ 25000000 ∷ [];
-    a = 30000000 ∷ 40000000 ∷ [];
-    b = 150000000 ∷ 180000000 ∷ [];
-    k = 5000000 ∷ 8000000 ∷ [];
-    ks = 60000000 ∷ 10000000 ∷ [];
-    h = 100000000 ∷ 150000000 ∷ [];
-    m = 90000000 ∷ 20000000 ∷ [];
-    s = 20000000 ∷ 30000000 ∷ [];
-  };
+  numbers =
+      ten (160000000 ∷ 120000000 ∷ []) (20000000 ∷ 0 ∷ []) (10000000 ∷ 25000000 ∷ []) (30000000 ∷ 40000000 ∷ []) (150000000 ∷ 180000000 ∷ [])
+      (5000000 ∷ 8000000 ∷ []) (60000000 ∷ 10000000 ∷ []) (100000000 ∷ 150000000 ∷ []) (90000000 ∷ 20000000 ∷ []) (20000000 ∷ 30000000 ∷ []);
   cl = 5000000 ∷ 100000 ∷ [];
   cb = 4000000 ∷ 250000 ∷ [];
   kd = 0 ∷ 0 ∷ [];
@@ -104,13 +87,8 @@ newColumns = record {
 
 -- and a state
 unfoldable pub someState : State
-someState = record {
-  channel = 1000000 ∷ 2000000 ∷ [];
-  storage = 3000000 ∷ 500000 ∷ [];
-  sediment = 700000 ∷ 900000 ∷ [];
-  upstream = 2500000;
-  steps = 0;
-}
+someState =
+    record { channel = 1000000 ∷ 2000000 ∷ []; storage = 3000000 ∷ 500000 ∷ []; sediment = 700000 ∷ 900000 ∷ []; upstream = 2500000; steps = 0 }
 
 -- a step from this old set to the new one
 unfoldable pub stepFrom : NumberSet → Call
@@ -168,12 +146,7 @@ flowBench =
 unfoldable pub onePair : Pair
 onePair =
     let part : ℕ → ℕ = λ k. k * 2 ^ 24 in
-    record {
-      old = record { e = part 16; g = part 4; l = part 8; a = part 12; b = part 10; k = part 5; ks = part 3; h = part 20; m = part 6; s = part 5 };
-      new = record { e = part 8; g = part 2; l = part 16; a = part 8; b = part 8; k = part 2; ks = part 4; h = part 16; m = part 4; s = part 4 };
-      cl = 2000;
-      cb = 400;
-    }
+    record { old = mapTen part (ten 16 4 8 12 10 5 3 20 6 5); new = mapTen part (ten 8 2 16 8 8 2 4 16 4 4); cl = 2000; cb = 400 }
 
 -- C 400, Z 800 and W 1,000
 unfoldable pub oldFigures : ExactFigures

@@ -68,20 +68,15 @@ pub record Ten (A : Type 0) : Type 0 where
   pub m : A
   pub s : A
 
+-- by their places
+abbrev pub ten : {A : Type 0} → (e g l a b k ks h m s : A) → Ten A
+ten e g l a b k ks h m s = record { e = e; g = g; l = l; a = a; b = b; k = k; ks = ks; h = h; m = m; s = s }
+
 -- ten by one rule: `part` takes the number at hand out of any ten
 abbrev pub tenOf : {B : Type 0} → ((part : (A : Type 0) → Ten A → A) → B) → Ten B
-tenOf rule = record {
-  e = rule (λ A x. x .e);
-  g = rule (λ A x. x .g);
-  l = rule (λ A x. x .l);
-  a = rule (λ A x. x .a);
-  b = rule (λ A x. x .b);
-  k = rule (λ A x. x .k);
-  ks = rule (λ A x. x .ks);
-  h = rule (λ A x. x .h);
-  m = rule (λ A x. x .m);
-  s = rule (λ A x. x .s);
-}
+tenOf rule =
+    ten (rule (λ A x. x .e)) (rule (λ A x. x .g)) (rule (λ A x. x .l)) (rule (λ A x. x .a)) (rule (λ A x. x .b))
+    (rule (λ A x. x .k)) (rule (λ A x. x .ks)) (rule (λ A x. x .h)) (rule (λ A x. x .m)) (rule (λ A x. x .s))
 
 -- f of each
 abbrev pub mapTen : {A B : Type 0} → (A → B) → Ten A → Ten B

@@ -14,7 +14,7 @@ use Rattle.model.specs.Flow.{Course, courseOf}
 use Rattle.model.specs.HalfStep.{Site, ad, siteAt, discharge, Numbers, numbers}
 use Rattle.model.specs.Equations.{sumT, sumV}
 use Rattle.model.specs.State.{Columns, columnLists, loadedSegments, writeSegments}
-use Rattle.model.specs.Refusals.{nothing, reach, segment, row, Outcome, accepted, refused, Finding, passes, fails, test, testEach, first, outcomeOf}
+use Rattle.model.specs.Refusals.{nothing, reach, segment, row, Outcome, Finding, passes, fails, test, testEach, first, outcomeOf, leftAfter}
 
 -- "only 2 and 3 are found on one walk from the front, and the one met first decides": section by section from the count at `at`;
 -- 2, the sheet ends before the count or before its last record, 3, "a count is outside its range"
@@ -128,8 +128,7 @@ loadAnswer sheet r records columns = outcomeOf (loadTests sheet r records column
 
 -- the fourteen lists afterwards: an accepted loading writes their first entries, with "that flow's set", a refusal nothing
 abbrev pub columnsAfter : Outcome Loaded → List ℕ → (r : ℕ) → Columns → Columns
-columnsAfter (accepted v) sheet r before = writeSegments (loadedSegments sheet r) before
-columnsAfter (refused number place) sheet r before = before
+columnsAfter answer sheet r before = leftAfter answer before (writeSegments (loadedSegments sheet r) before)
 
 -- and with its own answer
 unfoldable pub loadColumns : List ℕ → (r records : ℕ) → Columns → Columns
@@ -137,8 +136,7 @@ loadColumns sheet r records before = columnsAfter (loadAnswer sheet r records be
 
 -- the list of reach records afterwards: "an accepted loading fills its first entries from the sheet, one for each reach"
 abbrev pub recordsAfter : Outcome Loaded → List ℕ → List Reach → List Reach
-recordsAfter (accepted v) sheet before = over (reaches sheet) before
-recordsAfter (refused number place) sheet before = before
+recordsAfter answer sheet before = leftAfter answer before (over (reaches sheet) before)
 
 -- and with its own answer
 unfoldable pub loadRecords : List ℕ → (r : ℕ) → List Reach → Columns → List Reach

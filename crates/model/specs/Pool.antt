@@ -10,11 +10,11 @@ use Rattle.lists.specs.Lists.{over, anyShorter, stretch, splice, anyBelow, sumB
 use Rattle.model.specs.Ranges.{_to_, outside, concentration, mostSegments, mostRivers}
 use Rattle.model.specs.Sheet.{Reach, segmentCount}
 use Rattle.model.specs.State.{Columns, State, loadedSegments}
-use Rattle.model.specs.Refusals.{Outcome, accepted, refused, Finding, passes, fails, test, outcomeOf}
+use Rattle.model.specs.Refusals.{Outcome, accepted, refused, Finding, passes, fails, test, outcomeOf, leftAfter}
 use Rattle.model.specs.Load.{riverTests, listTests, Loaded, loaded, columnsAfter, recordsAfter}
 use Rattle.model.specs.Highest.{highestOf, blocksFault}
 use Rattle.model.specs.Search.{searchTests, Searches}
-use Rattle.model.specs.Calls.{startFigures, Call, callTests, Values, callValues, callLeft, callLent, Result, leftAfter, resultOf}
+use Rattle.model.specs.Calls.{startFigures, Call, callTests, Values, callValues, callLeft, callLent, Result, resultOf}
 
 -- ---- the table and the pool
 
@@ -226,13 +226,8 @@ packed table new list = over (kept table mostSegments list ++ new) list
 -- an open river's slot: its first segment moves to the front by as many segments as stand before it and are no open river's
 abbrev pub moved : List Slot → Slot → Slot
 moved table x =
-    cond (isOpen x) (record {
-      opened = x .opened;
-      first = coveredBelow table (x .first);
-      segments = x .segments;
-      upstream = x .upstream;
-      steps = x .steps;
-    }) x
+    let first = coveredBelow table (x .first) in
+    cond (isOpen x) (record { opened = x .opened; first = first; segments = x .segments; upstream = x .upstream; steps = x .steps }) x
 
 -- the new river's slot
 abbrev pub newSlot : List Slot → (n u : ℕ) → Slot

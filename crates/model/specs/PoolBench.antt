@@ -8,7 +8,7 @@ use Rattle.lists.specs.Lists.{tab}
 use Rattle.model.specs.Sheet.{otr1}
 use Rattle.model.specs.Refusals.{Finding, passes, fails}
 use Rattle.model.specs.Calls.{Call, start}
-use Rattle.model.specs.Pool.{Slot, vacant, Pool, roomFault, tableFault, poolResult, packed, openAnswer, poolOpen, closeFinding, closedTable}
+use Rattle.model.specs.Pool.{Slot, vacant, slotAt, Pool, roomFault, tableFault, poolResult, packed, openAnswer, poolOpen, closeFinding, closedTable}
 use Rattle.model.specs.Bench.{allBytes, zeros, Line, line}
 use Rattle.model.specs.FlowBench.{refusedAt}
 
@@ -37,14 +37,11 @@ figuresIn x = x .opened ∷ x .first ∷ x .segments ∷ x .upstream ∷ x .step
 
 -- those of the first three slots of a table
 unfoldable pub threeIn : List Slot → List ℕ
-threeIn [] = []
-threeIn (x ∷ []) = []
-threeIn (x ∷ y ∷ []) = []
-threeIn (x ∷ y ∷ z ∷ more) = figuresIn x ++ figuresIn y ++ figuresIn z
+threeIn table = figuresIn (slotAt table 0) ++ figuresIn (slotAt table 1) ++ figuresIn (slotAt table 2)
 
 -- 18 of such a table
-unfoldable pub eighteenOf : Slot → Slot → Slot → ℕ
-eighteenOf x y z = ground (tableFault (tableOf x y z))
+unfoldable pub eighteen : Slot → Slot → Slot → ℕ
+eighteen x y z = ground (tableFault (tableOf x y z))
 
 -- rivers 1 and 3 are open, 3 before 1 in the lists, and 2 was closed
 unfoldable pub twoOpen : List Slot
@@ -129,18 +126,12 @@ poolBench =
     -- 17: "the new river's segments and those of the open ones exceed 1,024 together", a closed one's do not count; a number that is open; 0 and 9
     line 1 (room 2 24 ∷ room 2 25 ∷ room 8 24 ∷ room 1 1 ∷ room 0 1 ∷ room 9 1 ∷ []) (0 ∷ 1 ∷ 0 ∷ 1 ∷ 1 ∷ 1 ∷ []) ∷
     -- 18: rivers that touch, and that have one segment in common, in either order; one that ends at 1,024, and one that passes it; a closed one
-    line 2
-    (eighteenOf (openAt 0 10) (openAt 10 5) vacant ∷
-    eighteenOf (openAt 0 11) (openAt 10 5) vacant ∷
-    eighteenOf (openAt 20 5) (openAt 4 3) (openAt 0 5) ∷ [])
+    line 2 (eighteen (openAt 0 10) (openAt 10 5) vacant ∷ eighteen (openAt 0 11) (openAt 10 5) vacant ∷ eighteen (openAt 20 5) (openAt 4 3) (openAt 0 5) ∷ [])
     (0 ∷ 1 ∷ 1 ∷ []) ∷
-    line 3
-    (eighteenOf (openAt 1000 24) vacant vacant ∷
-    eighteenOf (openAt 1000 25) vacant vacant ∷
-    eighteenOf (closedAt 1000 25) (openAt 1000 24) vacant ∷ [])
+    line 3 (eighteen (openAt 1000 24) vacant vacant ∷ eighteen (openAt 1000 25) vacant vacant ∷ eighteen (closedAt 1000 25) (openAt 1000 24) vacant ∷ [])
     (0 ∷ 1 ∷ 0 ∷ []) ∷
     -- a river of no segment has none in common with another
-    line 4 (eighteenOf (openAt 0 10) (openAt 5 0) vacant ∷ []) (0 ∷ []) ∷
+    line 4 (eighteen (openAt 0 10) (openAt 5 0) vacant ∷ []) (0 ∷ []) ∷
     -- packing: the segments 1 and 2 of river 3, then 6 to 8 of river 1, then the new river's
     line 5 (packed twoOpen (100 ∷ 101 ∷ []) (from10 12)) (11 ∷ 12 ∷ 16 ∷ 17 ∷ 18 ∷ 100 ∷ 101 ∷ 17 ∷ 18 ∷ 19 ∷ 20 ∷ 21 ∷ []) ∷
     -- the order of the tests: 12 of the sheet before 17; 17 before 18 and 13; 18 before 13; 13 of the fourteen lists and of the shared ones before 14; 14

@@ -33,12 +33,8 @@ poolAccepts pool (closing number) = isPassed (closeFinding (pool .table) number)
 unfoldable pub afterCall : Pool → PoolCall → Pool
 afterCall pool (opening number sheet r records columns highest u) = poolOpen sheet r records columns pool number highest u
 afterCall pool (onRiver number call) = poolResult pool number call .left .state
-afterCall pool (closing number) = record {
-  table = closedTable (pool .table) number;
-  channel = pool .channel;
-  storage = pool .storage;
-  sediment = pool .sediment;
-}
+afterCall pool (closing number) =
+    record { table = closedTable (pool .table) number; channel = pool .channel; storage = pool .storage; sediment = pool .sediment }
 
 -- "each call lent what the last one left"
 unfoldable pub runPool : Pool → List PoolCall → Pool
@@ -66,25 +62,15 @@ ownCalls own = ownStart own ∷ own .since
 -- with one more
 abbrev pub withCall : LoneCall → Option Own → Option Own
 withCall call none = none
-withCall call (some own) = some (record {
-  sheet = own .sheet;
-  count = own .count;
-  columns = own .columns;
-  highest = own .highest;
-  u = own .u;
-  since = own .since ++ (call ∷ []);
-})
+withCall call (some own) =
+    let since = own .since ++ (call ∷ []) in
+    some (record { sheet = own .sheet; count = own .count; columns = own .columns; highest = own .highest; u = own .u; since = since })
 
 -- what an accepted call that names the river makes of them; none where it is not open
 abbrev pub ownAfter : Pool → PoolCall → Option Own → Option Own
-ownAfter pool (opening number sheet r records columns highest u) own = some (record {
-  sheet = sheet;
-  count = segmentCount sheet;
-  columns = writeSegments (loadedSegments sheet r) columns;
-  highest = highest;
-  u = u;
-  since = [];
-})
+ownAfter pool (opening number sheet r records columns highest u) own =
+    let loaded = writeSegments (loadedSegments sheet r) columns in
+    some (record { sheet = sheet; count = segmentCount sheet; columns = loaded; highest = highest; u = u; since = [] })
 ownAfter pool (onRiver number call) own = withCall (alone (slotOf (pool .table) number .segments) call) own
 ownAfter pool (closing number) own = none
 

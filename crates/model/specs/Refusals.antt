@@ -55,3 +55,8 @@ answer (fails number place) v = refused number place
 -- the outcome of a call with these tests, which has these values where all of them pass
 abbrev pub outcomeOf : {A : Type 0} → List Finding → A → Outcome A
 outcomeOf tests v = answer (first tests) v
+
+-- "Only an accepted call writes, and only the first entries it needs."
+abbrev pub leftAfter : {A B : Type 0} → Outcome A → (lent written : B) → B
+leftAfter (accepted v) lent written = written
+leftAfter (refused number place) lent written = lent

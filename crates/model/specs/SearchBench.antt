@@ -3,6 +3,7 @@
 use mathlib.Core.List.{List, [], _∷_, _++_, map}
 use Prim.Native.Nat.{ℕ}
 use lib.ListN.{getD, replicate}
+use Rattle.model.specs.HalfStep.{ten}
 use Rattle.model.specs.State.{Columns, State}
 use Rattle.model.specs.Refusals.{first}
 use Rattle.model.specs.Highest.{blockCount, blockOf, highestOf}
@@ -15,24 +16,9 @@ use Rattle.model.specs.PoolBench.{found, openAt, tableOf, twoOpen, from1
 
 -- one segment with exchange and sorption, whose figures all are 1,000,000,000: before the cut its new channel figure is one more
 unfoldable pub fullColumns : Columns
-fullColumns = record {
-  numbers = record {
-    e = 0 ∷ [];
-    g = 0 ∷ [];
-    l = 0 ∷ [];
-    a = 8 ∷ [];
-    b = 80000000 ∷ [];
-    k = 0 ∷ [];
-    ks = 0 ∷ [];
-    h = 8 ∷ [];
-    m = 0 ∷ [];
-    s = 80000000 ∷ [];
-  };
-  cl = 0 ∷ [];
-  cb = 0 ∷ [];
-  kd = 0 ∷ [];
-  start = 0 ∷ [];
-}
+fullColumns =
+    let x : List ℕ = 0 ∷ [] in
+    record { numbers = ten x x x (8 ∷ []) (80000000 ∷ []) x x (8 ∷ []) x (80000000 ∷ []); cl = x; cb = x; kd = x; start = x }
 
 unfoldable pub fullState : State
 fullState =

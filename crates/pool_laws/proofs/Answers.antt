@@ -7,8 +7,8 @@ use Prim.Native.Nat.{ℕ}
 use Rattle.lists.proofs.Shorter.{none-shorter}
 use Rattle.model.specs.Ranges.{mostSegments}
 use Rattle.model.specs.State.{State}
-use Rattle.model.specs.Refusals.{Place, Outcome, accepted, refused, Finding, passes, fails, first, answer}
-use Rattle.model.specs.Calls.{Left, Call, callTests, callValues, callLeft, callLent, leftAfter, result}
+use Rattle.model.specs.Refusals.{Place, Outcome, accepted, refused, Finding, passes, fails, first, answer, leftAfter}
+use Rattle.model.specs.Calls.{Left, Call, callTests, callValues, callLeft, callLent, result}
 use Rattle.model.specs.Search.{searchTests, Searches, SearchAnswer}
 use Rattle.model.specs.Pool.{Pool, sharedLists, slotOf, stateOf, withState, numberFault, sharedFault, poolTests, poolResult, poolSearchTests, PoolSearchAnswer}
 use Rattle.model.specs.PoolClaim.{Alike}

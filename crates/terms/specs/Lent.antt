@@ -6,15 +6,14 @@ use lib.ListN.{length, getD}
 use denote.Ref.{RefT, now}
 use Rattle.lists.specs.Lists.{tab}
 use Rattle.model.specs.Ranges.{mostRivers}
-use Rattle.model.specs.HalfStep.{mapTen}
+use Rattle.model.specs.HalfStep.{ten, mapTen}
 use Rattle.model.specs.State.{NumberSet, Columns, State}
 use Rattle.model.specs.Calls.{Working, Left}
 use Rattle.model.specs.Pool.{Slot, Pool}
 
 -- a set: its ten lists
 abbrev pub set : {A : Type 0} → (A → List ℕ) → (e g l a b k ks h m s : A) → NumberSet
-set at e g l a b k ks h m s =
-    mapTen at (record { e = e; g = g; l = l; a = a; b = b; k = k; ks = ks; h = h; m = m; s = s })
+set at e g l a b k ks h m s = mapTen at (ten e g l a b k ks h m s)
 
 -- the fourteen lists
 abbrev pub columns : {A : Type 0} → (A → List ℕ) → (e g l a b k ks h m s cl cb kd start : A) → Columns
