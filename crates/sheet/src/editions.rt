@@ -14,21 +14,15 @@ use limits::REACHES;
 use limits::ROWS;
 use limits::Section;
 
-// The sheet starts with these bytes.
+// The sheet starts with these four bytes.
 fn starts_with(sheet: &[u8], mark: &[u8]) -> bool
+    requires { ⌜ length (now mark) ≡ 4 ⌝ }
     ensures { λ r. ⌜ r ≡ startsWith (entry mark) (entry sheet) ⌝ }
 {
-    let mut i: usize = 0;
-    while i < mark.len() {
-        if sheet.len() <= i {
-            return false;
-        }
-        if sheet[i] != mark[i] {
-            return false;
-        }
-        i += 1;
+    if sheet.len() < 4 {
+        return false;
     }
-    true
+    (sheet[0] == mark[0]) & (sheet[1] == mark[1]) & (sheet[2] == mark[2]) & (sheet[3] == mark[3])
 }
 
 // 0 for "Fewer than four bytes, or another mark."

@@ -24,4 +24,4 @@ returns-3 c =
 pub edition-spec : {M : Type 1} → statement M
 edition-spec =
     tie.close
-    (tie.spec (λ c. search needs) (λ c κs. tt) returns (λ c. search needs) (λ c κs. tt) returns-2 returns-3)
+    (tie.spec (λ c. search needs) (λ c κs. search needs) returns (λ c. search needs) (λ c κs. search needs) returns-2 returns-3)
