@@ -147,12 +147,13 @@ callTests n state (start columns highest u) = startTests n columns state highest
 callTests n state (step old new highest working u′ M) = stepTests n old new state highest working u′ M
 callTests n state (report columns number) = reportTests n columns state number
 
--- what it hands back where they pass
+-- what it hands back where they pass: of a start or a step U and the count, of a report the segment's figures
 abbrev pub Values : Call → Type 0
 Values (start columns highest u) = River
 Values (step old new highest working u′ M) = River
 Values (report columns number) = Reported
 
+-- and that of this call
 abbrev pub callValues : State → (call : Call) → Values call
 callValues state (start columns highest u) = record { upstream = u; steps = 0 }
 callValues state (step old new highest working u′ M) = record { upstream = u′; steps = suc (state .steps) }

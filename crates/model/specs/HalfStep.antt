@@ -22,7 +22,7 @@ pub record Site : Type 0 where
 abbrev pub ad : Reach → ℕ
 ad reach = reach .area * reach .dispersion
 
--- segment i of a course; "above the first and below the last, its own is used", where 0 − 1 is 0
+-- segment i of a course, from 0 at the top; "above the first and below the last, its own is used": 0 − 1 is 0
 unfoldable pub siteAt : Course → ℕ → Site
 siteAt course i =
     let own = reachAt course i in

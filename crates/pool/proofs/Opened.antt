@@ -14,10 +14,10 @@ use Rattle.model.specs.Flow.{courseOf}
 use Rattle.model.specs.HalfStep.{Segment, loadedSegment}
 use Rattle.model.specs.Equations.{Figures}
 use Rattle.model.specs.State.{Columns, loadedSegments, writeSegments}
-use Rattle.model.specs.Refusals.{Outcome, Finding, passes, fails, first, answer}
+use Rattle.model.specs.Refusals.{Outcome, Finding, passes, fails, first, answer, leftAfter}
 use Rattle.model.specs.Load.{sheetTests, courseTests, riverTests, listTests, Loaded, loaded, columnsAfter}
 use Rattle.model.specs.Highest.{blockCount, highestOf}
-use Rattle.model.specs.Calls.{startFigures, leftAfter}
+use Rattle.model.specs.Calls.{startFigures}
 use Rattle.model.specs.Pool.{Slot, Pool, openSegments, tableFault, openTests, openAnswer, openColumns, poolAfterOpen, poolOpen, openHighest}
 use Rattle.model.proofs.Refusals.{all-pass, first-of, first-both}
 use Rattle.pool_laws.proofs.Openings.{newTests, lastTests, opening-passed}

@@ -8,8 +8,8 @@ use Rattle.lists.specs.Lent.{plain}
 use Rattle.lists.proofs.Stretch.{splice-back, splice-self}
 use Rattle.model.specs.Ranges.{mostSegments, mostRivers}
 use Rattle.model.specs.State.{NumberSet, Columns, State}
-use Rattle.model.specs.Refusals.{Place, Outcome, accepted, refused, Finding, passes, fails, first}
-use Rattle.model.specs.Calls.{River, Working, Call, start, step, report, callTests, Values, leftAfter, result}
+use Rattle.model.specs.Refusals.{Place, Outcome, accepted, refused, Finding, passes, fails, first, leftAfter}
+use Rattle.model.specs.Calls.{River, Working, Call, start, step, report, callTests, Values, result}
 use Rattle.model.specs.Pool.{Slot, endOf, slotOf, Pool, stateOf, withState, poolResult}
 use Rattle.model.proofs.Refusals.{first-rest}
 use Rattle.model.proofs.Calls.{lent-beside, result-passes, result-fails, refused-still}
