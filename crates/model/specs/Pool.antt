@@ -126,8 +126,8 @@ sharedFault shared = anyShorter mostSegments shared
 unfoldable pub poolTests : (table : List Slot) → (shared : List (List ℕ)) → (number : ℕ) → List Finding
 poolTests table shared number = test 18 (numberFault table number) ∷ test 13 (sharedFault shared) ∷ []
 
--- the outcome of a start, a step or a report: an accepted one puts the state that it leaves in its river's place. The highest figures are a list of the
--- river's own, whose blocks count from its own first segment.
+-- the outcome of a start, a step or a report: an accepted one puts the state that it leaves in its river's place, a report the one that it found, so that
+-- the pool is as it was (proofs/Calls). The highest figures are a list of the river's own, whose blocks count from its own first segment.
 unfoldable pub poolResult : Pool → (number : ℕ) → (call : Call) → Result Pool (Values call)
 poolResult pool number call =
     let n = slotOf (pool .table) number .segments in
