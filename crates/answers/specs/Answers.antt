@@ -43,9 +43,9 @@ foundBy (accepted v) = passes
 foundBy (refused number place) = fails number place
 
 -- what a start or a step hands out and leaves: the three numbers of its answer, and the state or the pool, the highest figures and the working lists
-pub record Handed {S A : Type 0} (outcome : Result S A) (number kind place : ℕ) (after : Left S) : Type 0 where
-  pub told : Told (foundBy (outcome .answer)) number kind place
-  pub left : after ≡ outcome .left
+pub record Handed {S A : Type 0} (result : Result S A) (number kind place : ℕ) (after : Left S) : Type 0 where
+  pub told : Told (foundBy (result .answer)) number kind place
+  pub left : after ≡ result .left
 
 -- what a report hands out: C, Z and Kd × W, where c, z and kdw were
 pub record ReportHanded (answer : Outcome Reported) (number kind place c z kdw c′ z′ kdw′ : ℕ) : Type 0 where

@@ -13,11 +13,11 @@ use Rattle.model.specs.Load.{flowRowFault, testFlows, walk, startsLate, 
 use Rattle.model.specs.Highest.{blocksFault}
 use Rattle.model.specs.Calls.{oldFault, numbersFault, riverFault, segmentFault, figureFault, startFault, stateFault, heldFault, startTests, startLeft, stepLeft, result, stepTests}
 use Rattle.model.specs.Bench.{bytes, allBytes, brook, zeros, noWork, Agree}
-use Rattle.model.specs.FlowBench.{snow, melting, flowRowsTold, loadingOf, withRows, firstE, oldE, newE, oldSetWith, oldSet, newColumns, someState, stepFrom, steppingFrom, someLeft, flowBench, onePair, oldFigures, newFractions, ExactBench}
+use Rattle.model.specs.FlowBench.{snow, melting, flowRowsTold, loadingOf, withRows, firstE, oldSetWith, oldSet, newColumns, someState, stepFrom, steppingFrom, someLeft, flowBench, onePair, oldFigures, newFractions, ExactBench}
 use Rattle.model.specs.ExactRiver.{last, next}
 
 pub flow-bench-holds : Agree flowBench
-unfolding blocksFault brook flowRowsTold oldE newE oldSetWith steppingFrom lowestFrom lowest anyShorter notRising nearest floorDiv outside anyOutside startsWith field headerField sectionEnd sectionsEnd countAt sheetEnd recordField reachFields reachOf reachOn reaches rowStarts rowConcentrations gauges totalSegments segmentCount alongRiver courseOf reachAt ownGain gain flow siteAt fractions numbers loadedSegment P N F R rowOf newStorage newSediment newFigures downward stepped segmentAt writeSegments figuresAt writeFigures walk startsLate rowFault gaugeFault flowFault faceFault sumFault sheetTests courseTests listTests loadTests loaded loadAnswer loadColumns riverFault segmentFault figureFault startFault stateFault heldFault startTests startLeft stepLeft result stepTests bytes allBytes zeros noWork topOf sections edition flowRowCount testFlows numbersFault numbersAt oldFault pairAt lastBegun flowInForce flowRowStart flowRowTop flowRowStarts flowRowTops flowRowFault snow melting loadingOf firstE oldSet newColumns someState flowBench withRows stepFrom someLeft
+unfolding blocksFault brook flowRowsTold oldSetWith steppingFrom lowestFrom lowest anyShorter notRising nearest floorDiv outside anyOutside startsWith field headerField sectionEnd sectionsEnd countAt sheetEnd recordField reachFields reachOf reachOn reaches rowStarts rowConcentrations gauges totalSegments segmentCount alongRiver courseOf reachAt ownGain gain flow siteAt fractions numbers loadedSegment P N F R rowOf newStorage newSediment newFigures downward stepped segmentAt writeSegments figuresAt writeFigures walk startsLate rowFault gaugeFault flowFault faceFault sumFault sheetTests courseTests listTests loadTests loaded loadAnswer loadColumns riverFault segmentFault figureFault startFault stateFault heldFault startTests startLeft stepLeft result stepTests bytes allBytes zeros noWork topOf sections edition flowRowCount testFlows numbersFault numbersAt oldFault pairAt lastBegun flowInForce flowRowStart flowRowTop flowRowStarts flowRowTops flowRowFault snow melting loadingOf firstE oldSet newColumns someState flowBench withRows stepFrom someLeft
 flow-bench-holds = (refl, (refl, (refl, (refl, (refl, (refl, (refl, (refl, (refl, (refl, (refl, (refl, (refl, (refl, (refl, (refl, (refl, (refl, (refl, (refl, (refl, (refl, (refl, (refl, (refl, (refl, tt))))))))))))))))))))))))))
 
 -- The exact step holds of the equations.

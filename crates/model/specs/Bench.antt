@@ -2,7 +2,7 @@
 -- give and those that are printed; proofs/Bench shows of the whole table at once that they are the same.
 use mathlib.Core.Path.{_≡_}
 use mathlib.Core.List.{List, [], _∷_, _++_}
-use Prim.Native.Nat.{ℕ, zero, suc, _+_, _-_, _/_, _%_, _^_}
+use Prim.Native.Nat.{ℕ, zero, suc, _-_, _/_, _%_, _^_}
 use lib.ListN.{getD, replicate}
 use Rattle.rounding.specs.Nearest.{S, parts}
 use Rattle.model.specs.Sheet.{otr1, reachOf}

@@ -1,7 +1,7 @@
--- Start, step and report: their tests 13 to 15, what each answers and leaves where they pass, and then the outcome of any of the three.
+-- Start, step and report: their tests 13 to 15, what each answers and leaves where they pass, and then the result of any of the three.
 use mathlib.Core.Bool.{Bool, true, false, not, _&&_, _||_}
 use mathlib.Core.List.{List, [], _∷_, _++_, map}
-use Prim.Native.Nat.{ℕ, suc, _+_, _-_, _*_}
+use Prim.Native.Nat.{ℕ, suc, _-_, _*_}
 use lib.Dec.{eqb, ltb, leb}
 use Rattle.lists.specs.Lists.{over, anyShorter}
 use Rattle.model.specs.Ranges.{_to_, outside, concentration, mostKd, mostSteps, mostSegments}
@@ -132,7 +132,7 @@ reported columns state i =
     let f = figuresAt state i in
     record { channel = f .c; storage = f .z; sediment = segmentAt columns i .kd * f .w }
 
--- ---- the outcome of a call
+-- ---- the result of a call
 
 -- a call, by what it is lent beside the state and the segment count, and what it is handed: "A start is also handed U at step 0; a step U' and M; a
 -- report a segment"
@@ -153,7 +153,7 @@ Values (start columns highest u) = River
 Values (step old new highest working u′ M) = River
 Values (report columns number) = Reported
 
--- and that of this call
+-- and those of this call
 abbrev pub callValues : State → (call : Call) → Values call
 callValues state (start columns highest u) = record { upstream = u; steps = 0 }
 callValues state (step old new highest working u′ M) = record { upstream = u′; steps = suc (state .steps) }
@@ -171,12 +171,12 @@ callLent state (start columns highest u) = record { state = state; highest = hig
 callLent state (step old new highest working u′ M) = record { state = state; highest = highest; working = working }
 callLent state (report columns number) = record { state = state; highest = []; working = noWorking }
 
--- a call's outcome: its answer, and what it leaves
+-- a call's result: its answer, and what it leaves
 pub record Result (S A : Type 0) : Type 0 where
   pub answer : Outcome A
   pub left : Left S
 
--- the outcome of a call with these tests
+-- that of a call with these tests
 abbrev pub resultOf : {S A : Type 0} → List Finding → A → (lent written : Left S) → Result S A
 resultOf tests values lent written =
     record { answer = outcomeOf tests values; left = leftAfter (outcomeOf tests values) lent written }

@@ -15,7 +15,7 @@ pub record ExactFigures : Type 0 where
 -- The three equations of one segment, from old figures to new ones, the left sides with the new numbers, the right sides with the old.
 -- An accepted sheet has T, V and h at most one whole, so S−T, S−V and S−h are whole numbers.
 pub record Solves (x : Pair) (above′ below′ above below : Fraction) (old new : ExactFigures) : Type 0 where
-  -- "(S+T)C' − eC'above − gC'below − aZ' − sW' = (S−T)C + eCabove + gCbelow + aZ + sW + 2lCL"; "2l and 2m become the old number plus the new"
+  -- "(S+T)C' − eC'above − gC'below − aZ' − sW' = (S−T)C + eCabove + gCbelow + aZ + sW + 2lCL", with 2l and 2m as in `Equations`
   pub channel : let n = x .old in
       let n′ = x .new in
       Same ((S + sumT n′) · new .c ⊖ n′ .e · above′ ⊖ n′ .g · below′ ⊖ n′ .a · new .z ⊖ n′ .s · new .w)
@@ -29,7 +29,7 @@ pub record Solves (x : Pair) (above′ below′ above below : Fraction) (old new
       let n′ = x .new in
       Same ((S + n′ .h) · new .w ⊖ n′ .h · new .c) ((S - n .h) · old .w ⊕ n .h · old .c)
 
--- the figure below a segment; "below the last segment g is 0 and its terms fall away"
+-- the figure below a segment: any will do below the last, as in `Sweep.below`
 abbrev pub exactBelow : List ExactFigures → Fraction
 exactBelow [] = whole 0
 exactBelow (f ∷ fs) = f .c

@@ -55,15 +55,7 @@ withRows rows = loadingOf (snow 1 2 0 0 1 rows) 0
 unfoldable pub firstE : List ℕ → (r : ℕ) → ℕ
 firstE sheet r = getD (loadColumns sheet r 1 (zeros 2) .numbers .e) 0 0
 
--- e of the first segment in the step from n to n + 1, on its old side
-unfoldable pub oldE : (n : ℕ) → ℕ
-oldE n = sheetPair melting n 0 .old .e
-
--- and on its new side
-unfoldable pub newE : (n : ℕ) → ℕ
-newE n = sheetPair melting n 0 .new .e
-
--- a set of two segments, with this list of e
+-- a set of two segments, with this list of e; behind it g, l, a, b, k, ks, h, m and s
 unfoldable pub oldSetWith : List ℕ → NumberSet
 oldSetWith e =
     ten e (50000000 ∷ 0 ∷ []) (30000000 ∷ 20000000 ∷ []) (70000000 ∷ 80000000 ∷ []) (200000000 ∷ 100000000 ∷ []) (10000000 ∷ 15000000 ∷ [])
@@ -105,10 +97,10 @@ someLeft = result 2 someState (stepFrom oldSet) .left
 -- the table
 unfoldable pub flowBench : List Line
 flowBench =
-    -- the flow in force at steps 0 to 4, and the pairs of steps 1 to 4: e is 1/4, 7/20 and 1/2 of one whole for the three flows
+    -- the flow in force at steps 0 to 4; of the pairs of steps 1 to 4 the first e, old and new: 1/4, 7/20 and 1/2 of one whole for the three flows
     line 1 (map (flowInForce melting) (0 ∷ 1 ∷ 2 ∷ 3 ∷ 4 ∷ [])) (0 ∷ 1 ∷ 1 ∷ 2 ∷ 2 ∷ []) ∷
-    line 2 (map oldE (0 ∷ 1 ∷ 2 ∷ 3 ∷ [])) (268435456 ∷ 375809638 ∷ 375809638 ∷ 536870912 ∷ []) ∷
-    line 3 (map newE (0 ∷ 1 ∷ 2 ∷ 3 ∷ [])) (375809638 ∷ 375809638 ∷ 536870912 ∷ 536870912 ∷ []) ∷
+    line 2 (map (λ n. sheetPair melting n 0 .old .e) (0 ∷ 1 ∷ 2 ∷ 3 ∷ [])) (268435456 ∷ 375809638 ∷ 375809638 ∷ 536870912 ∷ []) ∷
+    line 3 (map (λ n. sheetPair melting n 0 .new .e) (0 ∷ 1 ∷ 2 ∷ 3 ∷ [])) (375809638 ∷ 375809638 ∷ 536870912 ∷ 536870912 ∷ []) ∷
     -- each flow's own set; "13 if past the rows", of OTR1 any but 0
     line 4 (map (firstE melting) (0 ∷ 1 ∷ 2 ∷ [])) (268435456 ∷ 375809638 ∷ 536870912 ∷ []) ∷
     line 5 (loadingOf melting 2 ++ loadingOf melting 3) (0 ∷ 0 ∷ 13 ∷ 0 ∷ []) ∷

@@ -51,6 +51,7 @@ pub record Ratio : Type 0 where
   pub numerator : ℕ
   pub denominator : ℕ
 
+-- as the formulas write it
 infix 5 _÷_
 abbrev pub _÷_ : ℕ → ℕ → Ratio
 n ÷ d = record { numerator = n; denominator = d }
@@ -68,7 +69,7 @@ pub record Ten (A : Type 0) : Type 0 where
   pub m : A
   pub s : A
 
--- by their places
+-- by their places: e, g, l, a, b, k, ks, h, m, s
 abbrev pub ten : {A : Type 0} → (e g l a b k ks h m s : A) → Ten A
 ten e g l a b k ks h m s = record { e = e; g = g; l = l; a = a; b = b; k = k; ks = ks; h = h; m = m; s = s }
 
@@ -112,7 +113,7 @@ fractions site =
       s = dt * r .lamhat * r .rho * r .kd ÷ (2 * 10 ^ 15);
     }
 
--- "its fraction times one whole, to the nearest"
+-- a fraction as a half-step number
 abbrev pub rounded : Ratio → ℕ
 rounded f = parts (f .numerator) (f .denominator)
 

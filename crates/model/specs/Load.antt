@@ -17,7 +17,7 @@ use Rattle.model.specs.State.{Columns, columnLists, loadedSegments, writ
 use Rattle.model.specs.Refusals.{nothing, reach, segment, row, Outcome, Finding, passes, fails, test, testEach, first, outcomeOf, leftAfter}
 
 -- "only 2 and 3 are found on one walk from the front, and the one met first decides": section by section from the count at `at`;
--- 2, the sheet ends before the count or before its last record, 3, "a count is outside its range"
+-- 2, the sheet ends before the count or before its last record, 3, "A count is outside its range."
 unfoldable pub walk : List ℕ → (at : ℕ) → List Section → Finding
 walk sheet at [] = passes
 walk sheet at (section ∷ more) =

@@ -1,4 +1,4 @@
--- Document 02, 3: "Up to eight rivers share the three state lists, of 1,024 segments in all, their other lists lent as before." The shared
+-- Document 02, 3: "Up to eight rivers share the three state lists, of 1,024 segments in all, their other lists lent as before". The shared
 -- lists and the table of the rivers are a pool; a river works on its stretch of the shared lists.
 use mathlib.Core.Bool.{Bool, not, cond, _&&_, _||_}
 use mathlib.Core.List.{List, [], _∷_, _++_, map}
@@ -126,7 +126,7 @@ sharedFault shared = anyShorter mostSegments shared
 unfoldable pub poolTests : (table : List Slot) → (shared : List (List ℕ)) → (number : ℕ) → List Finding
 poolTests table shared number = test 18 (numberFault table number) ∷ test 13 (sharedFault shared) ∷ []
 
--- the outcome of a start, a step or a report: an accepted one puts the state that it leaves in its river's place, a report the one that it found, so that
+-- the result of a start, a step or a report: an accepted one puts the state that it leaves in its river's place, a report the one that it found, so that
 -- the pool is as it was (proofs/Calls). The highest figures are a list of the river's own, whose blocks count from its own first segment.
 unfoldable pub poolResult : Pool → (number : ℕ) → (call : Call) → Result Pool (Values call)
 poolResult pool number call =

@@ -2,7 +2,7 @@
 -- give and what was worked out apart from them; proofs/PoolBench shows of the whole table at once that they are the same.
 use mathlib.Core.Bool.{Bool, cond}
 use mathlib.Core.List.{List, [], _∷_, _++_, map}
-use Prim.Native.Nat.{ℕ, _+_}
+use Prim.Native.Nat.{ℕ}
 use lib.ListN.{replicate, take}
 use Rattle.lists.specs.Lists.{tab}
 use Rattle.model.specs.Sheet.{otr1}

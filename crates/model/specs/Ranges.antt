@@ -1,4 +1,4 @@
--- Document 01, "The river sheet", with the sections of document 02: the range of every field and count, and the limits of the calls, each written once.
+-- Document 01, "The river sheet", with document 02: the range of every field and count, by the edition, and the limits of the calls, each written once.
 use mathlib.Core.Bool.{Bool, false, cond, _||_}
 use mathlib.Core.List.{List, [], _∷_}
 use Prim.Native.Nat.{ℕ}

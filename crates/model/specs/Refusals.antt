@@ -12,7 +12,7 @@ pub data Place : Type 0 where
   segment : ℕ → Place
   row : ℕ → Place
 
--- what a call answers: the values that document 01 gives it, or "a refusal carries its number and its place"
+-- what a call answers: the values that document 01 gives it, or a refusal: "A refusal carries its number and its place"
 pub data Outcome (A : Type 0) : Type 0 where
   accepted : A → Outcome A
   refused : ℕ → Place → Outcome A

@@ -1,4 +1,4 @@
--- Document 01, "The run and its exact river", with the flow rows of document 02, 1: lists of calls, and the exact river that is fed them.
+-- Document 01, "The run and its exact river", with document 02, 1 and 5: lists of calls, what they leave, and the exact river that is fed them.
 use mathlib.Core.Path.{_≡_}
 use mathlib.Core.Bool.{Bool, true, false, cond}
 use mathlib.Core.List.{List, [], _∷_, map}

@@ -47,7 +47,7 @@ SearchAnswer n channel highest limit answer = Searches (searchTests n channel hi
 abbrev pub Clear : (n : ℕ) → (channel : List ℕ) → (limit : ℕ) → Type 0
 Clear n channel limit = (i : ℕ) → i < n → getD channel i 0 ≤ limit
 
--- "of lists as a start or step left them, that is when no segment is above": what is said of every answer then
+-- what is said of every answer where the lists are as a start or step left them
 pub record Tells (n : ℕ) (channel : List ℕ) (limit : ℕ) (answer : Outcome (Option ℕ)) : Type 0 where
   pub notRefused : isAccepted answer ≡ true
   pub noneIf : Clear n channel limit → answer ≡ accepted none

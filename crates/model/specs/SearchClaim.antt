@@ -1,5 +1,4 @@
--- Document 02, 5, what is promised of a search over any list of calls: "of lists as a start or step left them, that is when no segment is
--- above".
+-- Document 02, 5, what is promised of a search after any list of calls: "of lists as a start or step left them, that is when no segment is above."
 use mathlib.Core.Path.{_≡_}
 use mathlib.Core.Bool.{true}
 use mathlib.Core.List.{List, []}

@@ -1,5 +1,4 @@
--- "U at a step is found by a call of its own from lent rows and M; the rows are two lists, of start steps and of concentrations. It
--- tests their count (3, also for two lists of different length), then the rows (8)."
+-- "U at a step is found by a call of its own from lent rows and M; the rows are two lists, of start steps and of concentrations."
 use mathlib.Core.Bool.{not, _||_}
 use mathlib.Core.List.{List, [], _∷_}
 use Prim.Native.Nat.{ℕ}

@@ -17,7 +17,7 @@ use Rattle.model.specs.Highest.{blockCount, highestOf, blocksFault}
 use Rattle.model.specs.Calls.{noWorking, riverFault, startTests, startFigures, startLeft, start, result}
 use Rattle.lists.specs.Lent.{plain}
 use Rattle.terms.specs.Lent.{state, LongFigures}
-use Rattle.otis.specs.Outcomes.{outcome}
+use Rattle.otis.specs.Outcomes.{resultWith}
 use Rattle.model.proofs.Refusals.{all-pass, test-clear}
 use Rattle.model.proofs.Calls.{result-passes, result-fails}
 use Rattle.blocks.proofs.Fault.{blocks-long}
@@ -57,7 +57,7 @@ module _ (n : ℕ) (x : Columns) (before : State) (lent : List ℕ) (u : ℕ) wh
   pub start-accepted : (c z w left : List ℕ) → first (startTests n x before lent u) ≡ passes →
       c ≡ over (tab 0 n (λ i. getD (x .start) i 0)) (before .channel) → z ≡ over (tab 0 n (λ i. getD (x .start) i 0)) (before .storage) →
       w ≡ over (tab 0 n (λ i. getD (x .start) i 0)) (before .sediment) → left ≡ over (highestOf n c) lent →
-      outcome (accepted (record { upstream = u; steps = 0 })) (state plain c z w u 0) left noWorking ≡ result n before (start x lent u)
+      resultWith (accepted (record { upstream = u; steps = 0 })) (state plain c z w u 0) left noWorking ≡ result n before (start x lent u)
   unfolding startLeft segmentAt writeFigures
   start-accepted c z w left e p q r t = rw (
     result-passes n before (start x lent u) e,
@@ -71,5 +71,5 @@ module _ (n : ℕ) (x : Columns) (before : State) (lent : List ℕ) (u : ℕ) wh
   )
 
   pub start-refused : (number : ℕ) (place : Place) → first (startTests n x before lent u) ≡ fails number place →
-      outcome (refused number place) before lent noWorking ≡ result n before (start x lent u)
+      resultWith (refused number place) before lent noWorking ≡ result n before (start x lent u)
   start-refused number place e = sym (result-fails n before (start x lent u) e)

@@ -36,7 +36,7 @@ use Rattle.calltests.specs.Tests.{stateTests}
 use Rattle.calltests.proofs.RiverLaws.{counted, columns-long, figures-long}
 use Rattle.terms.proofs.Lengths.{set-long}
 use Rattle.calltests.proofs.StateTests.{Sound, sound}
-use Rattle.otis.specs.Outcomes.{outcome}
+use Rattle.otis.specs.Outcomes.{resultWith}
 
 -- ---- the tests of a step are those of its state, and then 15
 
@@ -165,7 +165,7 @@ module _ (n : ℕ) (old : NumberSet) (x : Columns) (state : State) (blocks : Lis
   step-tests = rw found (first-first (stateTests n x state unfit other u′ M) (test 15 (leb M (state .steps))) ∙ same-tests (riverFault n (setLists old)) refl)
 
   pub step-refused : (number : ℕ) (place : Place) → first (finding ∷ test 15 (leb M (state .steps)) ∷ []) ≡ fails number place →
-      outcome (refused number place) state blocks lent ≡ result n state (step old x blocks lent u′ M)
+      resultWith (refused number place) state blocks lent ≡ result n state (step old x blocks lent u′ M)
   step-refused number place e = sym (result-fails n state (step old x blocks lent u′ M) (sym step-tests ∙ e))
 
   module _ (e : first (finding ∷ test 15 (leb M (state .steps)) ∷ []) ≡ passes) where
@@ -232,7 +232,7 @@ module _ (n : ℕ) (old : NumberSet) (x : Columns) (state : State) (blocks : Lis
         (counted n lists (known .river) .1, rw (done .state-after .of-channel) (le-trans (long .channel) (over-long new (state .channel))), blocks-long n blocks (fit .0))
 
     pub step-accepted : (c z w p y left : List ℕ) → Sweep.Stepped n old x (still state) lent u′ c z w p y → left ≡ over (highestOf n c) blocks →
-        outcome (accepted (record { upstream = u′; steps = state .steps + 1 }))
+        resultWith (accepted (record { upstream = u′; steps = state .steps + 1 }))
         (Lent.state plain c z w u′ (state .steps + 1)) left (Lent.working plain p y) ≡ result n state (step old x blocks lent u′ M)
     unfolding stepLeft writeFigures figuresAt pairAt
     step-accepted c z w p y left done filled = rw (

@@ -17,5 +17,5 @@ stateAfter at channel storage sediment answer upstream steps =
     state at channel storage sediment (handed answer (λ v. v .upstream) upstream) (handed answer (λ v. v .steps) steps)
 
 -- the answer, the state or the pool, the highest figures and the working lists
-abbrev pub outcome : {S A : Type 0} → Outcome A → S → (highest : List ℕ) → Working → Result S A
-outcome answer state highest working = record { answer = answer; left = left state highest working }
+abbrev pub resultWith : {S A : Type 0} → Outcome A → S → (highest : List ℕ) → Working → Result S A
+resultWith answer state highest working = record { answer = answer; left = left state highest working }

@@ -14,7 +14,7 @@ ghost use Rattle.terms.specs.Says.{findingSays};
 ghost use Rattle.lists.specs.Lent.{entry, exit};
 ghost use Rattle.terms.specs.Lent.{setOf, columnsOf, state, working};
 ghost use Rattle.otis.specs.Says.{answerSays, reportSays};
-ghost use Rattle.otis.specs.Outcomes.{stateAfter, outcome};
+ghost use Rattle.otis.specs.Outcomes.{stateAfter, resultWith};
 use calltests::segments::set_at_fault;
 use calltests::start_test;
 use calltests::state_test;
@@ -77,7 +77,7 @@ impl River {
         u: u32,
     ) -> Answer
         ensures { λ r. ⌜ ((upstream steps : ℕ) →
-            outcome (answerSays r) (stateAfter exit channel storage sediment (answerSays r) upstream steps) (exit highest) noWorking
+            resultWith (answerSays r) (stateAfter exit channel storage sediment (answerSays r) upstream steps) (exit highest) noWorking
             ≡ result n (state entry channel storage sediment upstream steps) (Call.start (columnsOf (numbers .entry) (fixed .entry)) (entry highest) u)) ⌝ }
     {
         let found = start_test(
@@ -124,7 +124,7 @@ impl River {
         u: u32,
         steps: u32,
     ) -> Answer
-        ensures { λ r. ⌜ outcome (answerSays r) (stateAfter exit channel storage sediment (answerSays r) (self .upstream) (self .steps))
+        ensures { λ r. ⌜ resultWith (answerSays r) (stateAfter exit channel storage sediment (answerSays r) (self .upstream) (self .steps))
             (exit highest) (working exit p y)
             ≡ result n (state entry channel storage sediment (self .upstream) (self .steps))
             (Call.step (setOf (old .entry)) (columnsOf (new .entry) (fixed .entry)) (entry highest) (working entry p y) u steps) ⌝ }

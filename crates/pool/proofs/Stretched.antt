@@ -17,7 +17,7 @@ use Rattle.pool_laws.proofs.Answers.{frontTests, tests-clear, pool-passes, pool
 use Rattle.pool_laws.proofs.Pools.{shared-long}
 use Rattle.pool_laws.proofs.Tables.{number-clear, fault-apart}
 use Rattle.terms.specs.Lent.{state}
-use Rattle.otis.specs.Outcomes.{stateAfter, outcome}
+use Rattle.otis.specs.Outcomes.{stateAfter, resultWith}
 use Rattle.pool.specs.Left.{tableAfter}
 
 -- where the pool's own tests pass: a number, and a stretch that every shared list has
@@ -100,8 +100,8 @@ module _ (p : Pool) (number : ℕ) (x : Slot) (e : x ≡ slotOf (p .table) numbe
 module _ (p : Pool) (number : ℕ) (pass : first (frontTests p number) ≡ passes) (call : Call) where
   -- of a call that leaves this state
   on-pool : (a : Outcome (Values call)) (s : State) (highest : List ℕ) (working : Working) (later : Pool) →
-      outcome a s highest working ≡ result (slotOf (p .table) number .segments) (stateOf p number) call → later ≡ leftAfter a p (withState p number s) →
-      outcome a later highest working ≡ poolResult p number call
+      resultWith a s highest working ≡ result (slotOf (p .table) number .segments) (stateOf p number) call → later ≡ leftAfter a p (withState p number s) →
+      resultWith a later highest working ≡ poolResult p number call
   on-pool a s highest working later o l = go (first (callTests n (stateOf p number) call)) refl
     where
       n : ℕ
@@ -110,7 +110,7 @@ module _ (p : Pool) (number : ℕ) (pass : first (frontTests p number) ≡ passe
       rest : first (frontTests p number ++ callTests n (stateOf p number) call) ≡ first (callTests n (stateOf p number) call)
       rest = first-rest (frontTests p number) (callTests n (stateOf p number) call) pass
 
-      go : (t : Finding) → first (callTests n (stateOf p number) call) ≡ t → outcome a later highest working ≡ poolResult p number call
+      go : (t : Finding) → first (callTests n (stateOf p number) call) ≡ t → resultWith a later highest working ≡ poolResult p number call
       go passes e =
           let is = o ∙ result-passes n (stateOf p number) call e in
           rw (pool-passes p number call (rest ∙ e), l, ap (λ x. x .answer) is, ap (λ x. x .left .state) is, ap (λ x. x .left .highest) is, ap (λ x. x .left .working) is)
@@ -135,16 +135,16 @@ module _ (p : Pool) (number : ℕ) (x : Slot) (e : x ≡ slotOf (p .table) numbe
     came-back = written p number x e a c z w table t
 
     pub started : (cols : Columns) (lent : List ℕ) (u : ℕ) →
-        outcome a left highest working ≡ result (x .segments) (parts x (p .channel) (p .storage) (p .sediment) (x .upstream) (x .steps)) (start cols lent u) →
-        outcome a (returned p x table c z w) highest working ≡ poolResult p number (start cols lent u)
+        resultWith a left highest working ≡ result (x .segments) (parts x (p .channel) (p .storage) (p .sediment) (x .upstream) (x .steps)) (start cols lent u) →
+        resultWith a (returned p x table c z w) highest working ≡ poolResult p number (start cols lent u)
     started cols lent u o =
         let o = o ∙ on-state (start cols lent u) in
         on-pool p number pass (start cols lent u) a left highest working _ o
         (came-back (λ k place q. ap (λ x. x .left .state) o ∙ refused-still _ _ (start cols lent u) (sym (ap (λ x. x .answer) o) ∙ q)))
 
     pub stepped : (old : NumberSet) (new : Columns) (lent : List ℕ) (works : Working) (u′ M : ℕ) →
-        outcome a left highest working ≡ result (x .segments) (parts x (p .channel) (p .storage) (p .sediment) (x .upstream) (x .steps)) (step old new lent works u′ M) →
-        outcome a (returned p x table c z w) highest working ≡ poolResult p number (step old new lent works u′ M)
+        resultWith a left highest working ≡ result (x .segments) (parts x (p .channel) (p .storage) (p .sediment) (x .upstream) (x .steps)) (step old new lent works u′ M) →
+        resultWith a (returned p x table c z w) highest working ≡ poolResult p number (step old new lent works u′ M)
     stepped old new lent works u′ M o =
         let o = o ∙ on-state (step old new lent works u′ M) in
         on-pool p number pass (step old new lent works u′ M) a left highest working _ o

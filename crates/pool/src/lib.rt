@@ -17,7 +17,7 @@ ghost use Rattle.terms.specs.Says.{findingSays};
 ghost use Rattle.terms.specs.Lent.{columns, setOf, columnsOf, working, tableIn, pool};
 ghost use Rattle.assembly.specs.Says.{loadSays};
 ghost use Rattle.otis.specs.Says.{answerSays, reportSays};
-ghost use Rattle.otis.specs.Outcomes.{outcome};
+ghost use Rattle.otis.specs.Outcomes.{resultWith};
 ghost use Rattle.pool_table.specs.Says.{slotSays};
 ghost use Rattle.pool.specs.Left.{tableAfter, WhereLoaded, listAfterOpen, highestAfterOpen, tableAfterOpen};
 use assembly::Load;
@@ -90,7 +90,7 @@ pub fn start(
     table: &mut Table,
     u: u32,
 ) -> Answer
-    ensures { λ r. ⌜ outcome (answerSays r) (pool exit channel storage sediment table) (exit highest) noWorking
+    ensures { λ r. ⌜ resultWith (answerSays r) (pool exit channel storage sediment table) (exit highest) noWorking
         ≡ poolResult (pool entry channel storage sediment table) river (Call.start (columnsOf (numbers .entry) (fixed .entry)) (entry highest) u) ⌝ }
 {
     let found = pool_test(river, &channel[..], &storage[..], &sediment[..], &*table);
@@ -131,7 +131,7 @@ pub fn step(
     u: u32,
     steps: u32,
 ) -> Answer
-    ensures { λ r. ⌜ outcome (answerSays r) (pool exit channel storage sediment table) (exit highest) (working exit p y)
+    ensures { λ r. ⌜ resultWith (answerSays r) (pool exit channel storage sediment table) (exit highest) (working exit p y)
         ≡ poolResult (pool entry channel storage sediment table) river
         (Call.step (setOf (old .entry)) (columnsOf (new .entry) (fixed .entry)) (entry highest) (working entry p y) u steps) ⌝ }
 {

@@ -1,6 +1,6 @@
 -- Document 01 names the two lists of a river's boundary rows, "of start steps and of concentrations", and leaves how they are filled
--- to the program. Here a call of its own fills them from a sheet, tested or not, as a loading fills its lists: it tests 13, and "only
--- an accepted call writes, and only the first entries it needs".
+-- to the program. Here a call of its own fills them from a sheet, tested or not, as a loading fills its lists: it tests 13, and
+-- "Only an accepted call writes, and only the first entries it needs."
 use mathlib.Core.List.{List, [], _∷_}
 use Prim.Native.Nat.{ℕ}
 use Rattle.lists.specs.Lists.{over, anyShorter}
