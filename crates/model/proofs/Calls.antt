@@ -8,7 +8,7 @@ use Rattle.lists.proofs.Stretch.{splice-self}
 use Rattle.model.specs.State.{Columns, State}
 use Rattle.model.specs.Refusals.{Place, accepted, refused, Finding, passes, fails, first, answer, leftAfter}
 use Rattle.model.specs.Calls.{Call, start, step, report, callTests, callValues, callLeft, callLent, result}
-use Rattle.model.specs.Pool.{Slot, vacant, slotOf, Pool, sharedLists, stateOf, withState, poolTests, poolResult}
+use Rattle.model.specs.Pool.{vacant, slotOf, Pool, sharedLists, stateOf, withState, poolTests, poolResult}
 
 -- what a call is lent beside the state does not rest on the state
 pub lent-beside : {S T : Type 0} (x : S) (y : T) (call : Call) →
