@@ -3,8 +3,9 @@
     python3 bench/before_after.py [--before COMMIT] [--archive target/staticlib/libyumbaqel.a] [--runs 5]
 
 The library of the commit comes out of git's history: its files are put under target/before, and proved and built there, which takes some
-minutes the first time. Each library has the bench/calls.c and the header of its own tree. Both get the largest sheet, without flow rows and
-with 64, in turn; the best of the runs counts. By default the commit is one whose rounding of a fraction took thirty turns (document 02, 4).
+minutes the first time. Each library has the bench/calls.c and the header of its own tree. Both get the largest sheet, without flow rows,
+with 64, and with 32 bands in each reach too, in turn; the best of the runs counts. Where the commit's library has no bands, that sheet is
+put to the library of now alone. By default the commit is one whose rounding of a fraction took thirty turns (document 02, 4).
 """
 from __future__ import annotations
 
@@ -14,12 +15,12 @@ import sys
 import tempfile
 from pathlib import Path
 
-from calls import LARGEST, LARGEST_WITH_FLOWS, Size, timed
+from calls import LARGEST, LARGEST_WITH_BANDS, LARGEST_WITH_FLOWS, Size, timed
 from speed import ROOT, compiled
 
 THIRTY_TURNS = "967e8681adc3fc0e70f3ce5438d9771bd24f6154"
 ARCHIVE = Path("target/staticlib/libyumbaqel.a")
-SIZES = {"largest": LARGEST, "largest, 64 flow rows": LARGEST_WITH_FLOWS}
+SIZES = {"largest": LARGEST, "largest, 64 flow rows": LARGEST_WITH_FLOWS, "largest, 32 bands": LARGEST_WITH_BANDS}
 
 
 def hash_of(commit: str) -> str:
@@ -39,6 +40,11 @@ def built(commit: str) -> Path:
         subprocess.run(["tar", "-x"], cwd=tree, input=packed, check=True)
         subprocess.run(["rt", "staticlib", "yumbaqel"], cwd=tree, stdout=sys.stderr, check=True)
     return tree
+
+
+def knows_bands(tree: Path) -> bool:
+    """The tree's library takes sheets with bands."""
+    return "YUMBAQEL_MOST_BANDS" in (tree / "include" / "yumbaqel.h").read_text()
 
 
 def in_turn(programs: list[Path], size: Size, runs: int) -> list[dict[str, float]]:
@@ -67,6 +73,12 @@ def main() -> None:
         programs = [compiled(folders[0], "calls.c", str(tree / ARCHIVE), tree=tree),
                     compiled(folders[1], "calls.c", str(given.archive))]
         for title, size in SIZES.items():
+            if size.bands and not knows_bands(tree):
+                after, = in_turn(programs[1:], size, given.runs)
+                print(f"{title + ', ns':<28}{'':>14}{'after':>14}")
+                for call, took in after.items():
+                    print(f"{call:<28}{'':>14}{took:>14,.1f}")
+                continue
             before, after = in_turn(programs, size, given.runs)
             print(f"{title + ', ns':<28}{'before':>14}{'after':>14}{'ratio':>8}")
             for call in after:

@@ -35,15 +35,21 @@ SORPTION = STORAGE | {"LAMHAT", "LAMHAT2", "RHO", "Kd", "CB"}
 EACH_STEP = 6
 
 
+Band = tuple[int, int, int, int, int]       # lowest and highest flow, A, D and AS
+
+
 def packed(steps: int, interval: int, lengths: list[int], rows: list[tuple[int, int]], gauges: list[int],
-           flow_rows: list[tuple[int, int]], at_work: set[str] = set(ALL_RATES)) -> bytes:
-    """Reaches of so many 1 m segments each, with these rates at work and the others 0; marked OTR2 where there are flow rows."""
+           flow_rows: list[tuple[int, int]], at_work: set[str] = set(ALL_RATES), bands: list[Band] = []) -> bytes:
+    """Reaches of so many 1 m segments each, with these rates at work and the others 0; marked OTR2 where there are flow rows, OTR3 where
+    each reach has these bands too."""
     rates = [rate if name in at_work else 0 for name, rate in ALL_RATES.items()]
     words = [2, 100, steps, interval, 50_000, len(lengths), *(field for length in lengths for field in (length, *rates)),
              len(rows), *(field for row in rows for field in row), len(gauges), *gauges]
     if flow_rows:
         words += [len(flow_rows), *(field for row in flow_rows for field in row)]
-    return (b"OTR2" if flow_rows else b"OTR1") + struct.pack(f"<{len(words)}I", *words)
+    if bands:
+        words += [len(bands), *(field for band in bands for field in band)] * len(lengths)
+    return (b"OTR3" if bands else b"OTR2" if flow_rows else b"OTR1") + struct.pack(f"<{len(words)}I", *words)
 
 
 def sheet(segments: int, steps: int, interval: int, flow_rows: int = 0, at_work: set[str] = set(ALL_RATES)) -> bytes:

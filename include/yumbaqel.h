@@ -2,8 +2,8 @@
  * Yumbaqel: the OTIS river inside an intake gate controller, for C99 and C++.
  *
  * Link libyumbaqel.a, which `rt staticlib yumbaqel` writes (docs/C.md). Every function below is total: it takes any bytes, figures and
- * lengths, and its outcome is proved to be the one that documents 01 (docs/01-scope.md) and 02 (docs/02-change-requests.md, 1 to 3 and
- * 5) set out.
+ * lengths, and its outcome is proved to be the one that documents 01 (docs/01-scope.md) and 02 (docs/02-change-requests.md, 1 to 3, 5 and
+ * 6) set out.
  *
  * What the caller owes, for every function:
  *   - each pointer is not null and aligned for what it points at, also where its length is 0;
@@ -31,7 +31,7 @@
 extern "C" {
 #endif
 
-#define YUMBAQEL_VERSION 30100           /* of this header, 3.1.0: major x 10,000 + minor x 100 + patch */
+#define YUMBAQEL_VERSION 30200           /* of this header, 3.2.0: major x 10,000 + minor x 100 + patch */
 #define YUMBAQEL_SCALE 1073741824        /* one whole, 2^30 */
 #define YUMBAQEL_HIGHEST 1000000000      /* the highest concentration, ng/L */
 #define YUMBAQEL_MOST_SEGMENTS 1024
@@ -40,18 +40,19 @@ extern "C" {
 #define YUMBAQEL_MOST_ROWS 256
 #define YUMBAQEL_MOST_GAUGES 32
 #define YUMBAQEL_MOST_FLOW_ROWS 64
+#define YUMBAQEL_MOST_BANDS 32           /* of a reach */
 #define YUMBAQEL_MOST_RIVERS 8           /* that share lists */
 #define YUMBAQEL_BLOCKS 64               /* highest figures of the longest river, one for each sixteen segments */
 #define YUMBAQEL_NO_FLOW 65              /* the number of no flow: a sheet has the flow at the top, 0, and those of its rows, up to 64 */
-#define YUMBAQEL_LONGEST_SHEET 6824      /* bytes */
+#define YUMBAQEL_LONGEST_SHEET 48040     /* bytes; of a sheet without bands 6,824 */
 #define YUMBAQEL_STACK 8192              /* bytes of stack that any call needs at most, x86-64 */
 
 /*
- * The numbered refusals, in the documents' words. Where the sheet has flow rows (it is marked OTR2), these are its last section, and 2 and
- * 4 speak of the last flow row. 16 is looked at after 9. Each of 10 to 12 is looked for in the flow at the top and then in that of every
- * flow row, before the next. 13 is also a flow row's number past the rows, and in a step 14 looks at both sets. 17 is looked at after 12,
- * 18 before 13; 13 is also a shared list of fewer than 1,024 entries, and fewer highest figures than sixteen segments are begun, at which
- * 14 does not look.
+ * The numbered refusals, in the documents' words. A sheet marked OTR2 has flow rows behind the gauges, and one marked OTR3 behind these for
+ * each reach a count of bands, 0 to 32, and the bands; 2 and 4 speak of whichever section is last. 16 is looked at after 9, 19 after 16.
+ * Each of 10 to 12 is looked for in the flow at the top and then in that of every flow row, before the next. 13 is also a flow row's number
+ * past the rows, and in a step 14 looks at both sets. 17 is looked at after 12, 18 before 13; 13 is also a shared list of fewer than 1,024
+ * entries, and fewer highest figures than sixteen segments are begun, at which 14 does not look.
  */
 enum yumbaqel_number {
     YUMBAQEL_ACCEPTED = 0,
@@ -76,8 +77,9 @@ enum yumbaqel_number {
     YUMBAQEL_FLOW_ROW = 16,        /* A flow row breaks its rule (row). */
     YUMBAQEL_NO_ROOM = 17,         /* The number is outside 1 to 8 or already open, or the new river's segments and those of the open
                                       ones exceed 1,024 together. */
-    YUMBAQEL_NOT_OPEN = 18         /* The named river is not open, or in the table handed in open rivers overlap or pass segment 1,024
+    YUMBAQEL_NOT_OPEN = 18,        /* The named river is not open, or in the table handed in open rivers overlap or pass segment 1,024
                                       (an opening tests only the table, a closing 18 alone). */
+    YUMBAQEL_BAND = 19             /* A band is out of range or reversed, two bands overlap or a flow has none (reach). */
 };
 
 /* What the place of a refusal is. */
@@ -88,7 +90,8 @@ enum yumbaqel_kind {
     YUMBAQEL_ROW = 3               /* a boundary row or, of refusal 9, a gauge, of 16 a flow row */
 };
 
-/* A reach record: the sixteen fields of a reach, in the sheet's order and units. */
+/* A reach record: the sixteen fields of a reach, in the sheet's order and units. Of a reach with bands D, A and AS are its own fields, by
+   which its segments do not go. */
 struct yumbaqel_reach {
     uint32_t segments;
     uint32_t dispersion;           /* D, cm2/s */
@@ -141,8 +144,9 @@ typedef char yumbaqel_loaded_has_36_bytes[2 * (sizeof(struct yumbaqel_loaded) ==
 typedef char yumbaqel_table_has_160_bytes[2 * (sizeof(struct yumbaqel_table) == 160) - 1];
 
 /*
- * A loading for one of the sheet's flows: row is 0 for the flow at the top, else the number of a flow row. Tests 1 to 13 and 16 on any
- * bytes and any lists, and 10 to 12 of every flow, whichever row it is handed. Accepted, it writes *loaded, the first entries of the
+ * A loading for one of the sheet's flows: row is 0 for the flow at the top, else the number of a flow row. Tests 1 to 13, 16 and 19 on any
+ * bytes and any lists, and 10 to 12 of every flow, whichever row it is handed. Where a reach has bands, each of its segments has A, D and
+ * AS of the band that holds its own flow, in 11 and in its half-step numbers. Accepted, it writes *loaded, the first entries of the
  * fourteen lists (that flow's set, which is the ten half-step numbers e to s, then CL, CB, Kd and the start figure), one for each segment,
  * and those of the reach records, one for each reach. All but the set is the same for every flow. Lists of YUMBAQEL_MOST_SEGMENTS and
  * YUMBAQEL_MOST_REACHES entries are long enough for every sheet.
@@ -233,10 +237,10 @@ void yumbaqel_search(
    it; it begins with no river open. Only 17 and 18 depend on the other rivers. */
 
 /*
- * An opening: a loading, for one of the sheet's flows, and a start in one call; u is U at step 0. Tests 1 to 12 and 16 as a loading, then
- * 17, 18 of the table alone, 13 and 14. Accepted, it writes what a loading writes, the new river's highest figures, the number's slot, and
- * the shared lists: the open rivers' segments come to the front, in their order (the first of their slots follows them), the new river's
- * stand behind them with the start figure, and what lies behind these stays. The others' highest figures stay true.
+ * An opening: a loading, for one of the sheet's flows, and a start in one call; u is U at step 0. Tests 1 to 12, 16 and 19 as a loading,
+ * then 17, 18 of the table alone, 13 and 14. Accepted, it writes what a loading writes, the new river's highest figures, the number's slot,
+ * and the shared lists: the open rivers' segments come to the front, in their order (the first of their slots follows them), the new
+ * river's stand behind them with the start figure, and what lies behind these stays. The others' highest figures stay true.
  */
 void yumbaqel_pool_open(
     uint32_t *number, uint32_t *kind, uint32_t *place, struct yumbaqel_loaded *loaded,
@@ -332,8 +336,8 @@ uint32_t yumbaqel_gauge(const uint8_t *sheet, size_t sheet_length, size_t j);
 
 /*
  * The number of the flow in force at step j of a sheet that a loading accepted: the last of its flow rows that starts at or before j, or 0,
- * the flow at the top, where none does. Of other bytes too: 0 where the mark is not OTR2, else the last of as many rows as the count says,
- * bytes past the sheet's end counting as 0. Nothing is tested or written.
+ * the flow at the top, where none does. Of other bytes too: 0 where the mark is not OTR2 or OTR3, else the last of as many rows as the
+ * count says, bytes past the sheet's end counting as 0. Nothing is tested or written.
  */
 uint32_t yumbaqel_flow(const uint8_t *sheet, size_t sheet_length, uint32_t j);
 
@@ -355,6 +359,10 @@ uint32_t yumbaqel_most_rivers(void);
 /* The highest figures of the longest river, YUMBAQEL_BLOCKS. It is proved that a search which is lent channel and highest figures as the
    calls left them says 0 just where no segment is above the limit. */
 uint32_t yumbaqel_most_blocks(void);
+
+/* The most bands of a reach, YUMBAQEL_MOST_BANDS. It is proved that bands, one or more, none of them out of range or reversed, pass test 19
+   just where every flow from 0 to 100,000,000 is in exactly one of them. */
+uint32_t yumbaqel_most_bands(void);
 
 /* The library's own version. The header belongs to it where this is YUMBAQEL_VERSION. */
 uint32_t yumbaqel_version(void);

@@ -1,4 +1,4 @@
-"""The document's bench figures, the tests 13 to 15, 17 and 18, highest figures and searches, put to the model itself.
+"""The document's bench figures, tests 13 to 15 and 17 to 19, bands, highest figures and searches, put to the model itself.
 
 Program `river` cannot show these from outside: they hold the model to the document.
 """
@@ -7,6 +7,7 @@ from __future__ import annotations
 import math
 import random
 from collections.abc import Callable, Iterator
+from dataclasses import replace
 from fractions import Fraction
 from itertools import chain
 from typing import Any, NamedTuple
@@ -14,8 +15,8 @@ from typing import Any, NamedTuple
 import exact
 import model
 import sheets
-from model import (COLUMNS, HIGHEST, MOST_SEGMENTS, MOST_STEPS, NONE_ABOVE, ONE_WHOLE, SET, Lists, Numbers, Pair,
-                   Refusal, Segment, Slot, State)
+from model import (COLUMNS, HIGHEST, HIGHEST_FLOW, MOST_BANDS, MOST_SEGMENTS, MOST_STEPS, NONE_ABOVE, ONE_WHOLE, SET, Band,
+                   Lists, Numbers, Pair, Refusal, Segment, Slot, State)
 from pools import after_closing, after_moving, after_opening, replaced
 
 
@@ -71,7 +72,7 @@ def bench_figures() -> Iterator[Check]:
     yield Check("1,024 segments", answer(sheets.still_reaches(1_024)), ACCEPTED)
     yield Check("1,025 segments", answer(sheets.still_reaches(1_024, 1)), (7, None))
     yield Check("the listing", model.listing(sheets.write(sheets.listing_draft())), sheets.LISTING)
-    yield Check("the longest sheet", model.LONGEST_SHEET, 6_824)
+    yield Check("the longest sheet", model.LONGEST_SHEET, 48_040)
 
 
 class Bench:
@@ -218,6 +219,11 @@ def call_tests() -> Iterator[Check]:
         yield check(f"row {row} of OTR1", "load", given(row=row, sheet=otr1), wanted)
     twelve = given(row=2, sheet=sheets.write(sheets.filling(0, 334)))
     yield check("12 of a row before 13", "load", twelve, (12, ("segment", 1)))
+    bands = sheets.plain_bands()
+    for row, wanted in ((0, ACCEPTED), (3, ACCEPTED), (4, NOTHING_13)):
+        yield check(f"row {row} of OTR3", "load", given(row=row, sheet=sheets.write(bands)), wanted)
+    gap = given(row=4, sheet=sheets.write(bands.with_table(1, sheets.GAP)))
+    yield check("19 before 13", "load", both(shortened("e"), gap), (19, ("reach", 2)))
     yield from old_set_tests(check)
     for call in CALLS:
         for name in ("C", "Z", "W"):
@@ -318,11 +324,7 @@ def flow_row_tests() -> Iterator[Check]:
         yield Check(f"{count} flow rows", answer(draft.with_header(M=65).with_flows(*rows)), wanted)
     for fault in sheets.flow_faults():
         yield Check(fault.name, answer(fault.draft), (fault.number, ("segment", fault.segment)))
-    for case in (*sheets.other_marks(draft), *sheets.flow_rivers(), *sheets.disordered_flows(draft)):
-        refusal = model.answer(case.sheet)
-        yield Check(case.name, refusal.number if refusal else sheets.ACCEPTED, case.number)
-        if case.twin:
-            yield Check(f"{case.name}: its twin", model.listing(case.sheet), model.listing(case.twin))
+    yield from case_checks(chain(sheets.other_marks(draft), sheets.flow_rivers(), sheets.disordered_flows(draft)))
 
 
 def flow_in_force_tests() -> Iterator[Check]:
@@ -336,7 +338,9 @@ def flow_in_force_tests() -> Iterator[Check]:
         yield check("three rows", sheet, step, wanted)
         yield check("OTR1", sheets.write(sheets.plain()), step, 0)
         yield check("marked OTR1", model.MARK + sheet[4:], step, 0)
-        yield check("marked OTR3", sheets.UNKNOWN_MARK + sheet[4:], step, 0)
+        yield check("marked OTR3", model.BAND_MARK + sheet[4:], step, wanted)
+        yield check("with bands", sheets.write(draft.with_bands(sheets.good_tables()["32 bands"])), step, wanted)
+        yield check("another mark", sheets.UNKNOWN_MARK + sheet[4:], step, 0)
         yield check("bytes added", sheet + b"\xff" * 9, step, wanted)
     one, three = (sheets.offset(draft, f"flow row {row} start") for row in (1, 3))
     count, gauges = (sheets.offset(draft, f"count of {records}") for records in ("flow rows", "gauges"))
@@ -352,6 +356,97 @@ def flow_in_force_tests() -> Iterator[Check]:
     yield check("gauges far past the end", sheets.put(sheet, gauges, 2 ** 32 - 1), 9, 0)
     yield check("no bytes", b"", 5, 0)
     yield check("the mark alone", model.FLOW_MARK, 5, 0)
+
+
+def case_checks(cases: Iterator[sheets.Case]) -> Iterator[Check]:
+    """What the making of a case decides, and the twin's listing."""
+    for case in cases:
+        refusal = model.answer(case.sheet)
+        yield Check(case.name, refusal.number if refusal else sheets.ACCEPTED, case.number)
+        if case.twin:
+            yield Check(f"{case.name}: its twin", model.listing(case.sheet), model.listing(case.twin))
+
+
+def band_tests() -> Iterator[Check]:
+    """19 with its places, the order of tests around it, the counts, and tests 10 to 12 by the bands."""
+    draft, good = sheets.plain_bands(), sheets.good_tables()
+    for fault in sheets.band_faults():
+        yield Check(f"19: {fault.name}", answer(fault.draft), (19, ("reach", fault.reach)))
+    for name, table in good.items():
+        for reach in (0, 1, 2):
+            yield Check(f"reach {reach + 1}: {name}", answer(draft.with_table(reach, table)), ACCEPTED)
+    for count, wanted in ((0, ACCEPTED), (1, ACCEPTED), (MOST_BANDS, ACCEPTED), (MOST_BANDS + 1, (3, None))):
+        table = sheets.bands_of(*sheets.seams(count)) if count else []
+        yield Check(f"{count} bands", answer(draft.with_table(2, table)), wanted)
+    for number in sheets.tests_of(draft):
+        if number >= 5:
+            places = {6: ("reach", 1), 8: ("row", 1), 9: ("row", 1), 16: ("row", 1), 19: ("reach", 1)}
+            first = number if sheets.ORDER.index(number) < sheets.ORDER.index(19) else 19
+            sheet = sheets.with_faults(draft, sorted({number, 19}), {}, {})
+            refusal = model.answer(sheet)
+            yield Check(f"{number} and 19", (refusal.number, refusal.place), (first, places.get(first)))
+    for name in ("A", "D", "AS"):
+        outside = model.REACH_RANGES[name].high + 1
+        yield Check(f"own {name} of a reach with bands", answer(draft.with_reach(0, **{name: outside})), (6, ("reach", 1)))
+        other = draft.with_reach(0, **{name: model.REACH_RANGES[name].low})
+        yield Check(f"own {name} does not count", model.listing(sheets.write(other)), model.listing(sheets.write(draft)))
+    for fault in sheets.band_flow_faults():
+        yield Check(fault.name, answer(fault.draft), (fault.number, ("segment", fault.segment)))
+        if fault.number > 10:
+            yield Check(f"{fault.name}: without bands", answer(replace(fault.draft, bands=None)), ACCEPTED)
+    yield from case_checks(chain(sheets.band_marks(draft), sheets.band_rivers(), sheets.disordered_flows(draft)))
+
+
+def every_flow_once(bands: list[Band], near: int) -> bool:
+    """Tried flow by flow up to there, and at the top; no band begins or ends between."""
+    flows = (*range(near + 2), HIGHEST_FLOW - 1, HIGHEST_FLOW)
+    return all(sum(Q in range(band.lowest, band.highest + 1) for band in bands) == 1 for Q in flows)
+
+
+def table_tests() -> Iterator[Check]:
+    """19 of small tables beside all flows tried one by one, whole tables and such with an end moved or a band doubled."""
+    rng, near, seen = random.Random("tables"), 12, set()
+    for _ in range(600):
+        lows = rng.sample(range(1, near + 1), rng.randint(0, 5))
+        bands = sheets.covering(lows, lambda: (9, 9, 9))
+        if rng.random() < 0.6:
+            at, name, more = rng.randrange(len(bands)), rng.choice(("lowest", "highest")), rng.choice((-2, -1, 1, 2))
+            moved = getattr(bands[at], name) + more
+            bands[at] = bands[at]._replace(**{name: max(0, min(HIGHEST_FLOW, moved))})
+        if rng.random() < 0.1:
+            bands.append(rng.choice(bands))
+        rng.shuffle(bands)
+        right = every_flow_once(bands, near) and all(band.lowest <= band.highest for band in bands)
+        seen.add(right)
+        yield Check(f"19: {[tuple(band[:2]) for band in bands]}", model.bands_fault(bands), not right)
+    yield Check("19: tables right and wrong", seen, {False, True})
+
+
+def band_bench() -> Iterator[Check]:
+    """Half-step numbers by bands, worked out by hand; then each flow's set beside that of a river without bands."""
+    edge = sheets.parted(500, (100, 50, 100), (200, 50, 50))
+    brook = sheets.brook(1, 499, ALPHA=100_000_000, qin=1_000_000, qout=1_000_000, A=7, D=7, AS=7).with_flows((1, 500))
+    rivers = model.rivers_of(model.read_sheet(sheets.write(brook.with_bands(edge))))
+    for flow, river, wanted in zip((499, 500), rivers, ((402_384_749, 53_687_091, 53_687_091, 53_687_091),
+                                                        (335_544_320, 26_843_546, 53_687_091, 214_748_365))):
+        part = river[0].numbers
+        yield Check(f"band bench: e, l, a and b at {flow}", (part.e, part.l, part.a, part.b), wanted)
+    # flows of 977 and 931: AD is 3,000,000 above the edge and 1,000,000 below it
+    split = sheets.parted(950, (1_000, 1_000, 9), (2_000, 1_500, 9))
+    river = top_river(sheets.slope(1_000, 2).with_header(dt=100).with_flows((1, 1_000)).with_bands(split))
+    yield Check("band bench: e and g beside another band", [(part.numbers.e, part.numbers.g) for part in river],
+                [(93_643_709, 40_574_019), (132_365_523, 0)])
+    rng, changes, parted = random.Random("bands"), 0, 0
+    for _ in range(60):
+        draft = sheets.good_river(rng, rng.randint(1, 30), rng.randint(1, 6), sheets.draw_band_river)
+        found = model.read_sheet(sheets.write(draft))
+        tops = [header.top_flow for header in model.headers(found)]
+        for top, river in zip(tops, model.rivers_of(found)):
+            yield Check(f"the set of {top} mL/s: {sheets.describe(draft)}", river, top_river(sheets.by_segment(draft, top)))
+        figures = [[(reach.A, reach.D, reach.AS) for reach in sheets.by_segment(draft, top).reaches] for top in tops]
+        changes += any(one != other for one, other in zip(figures, figures[1:]))
+        parted += any(len(set(each)) > len(draft.reaches) for each in figures)
+    yield Check("drawn rivers change band at a row, and have reaches in several bands", min(changes, parted) > 5, True)
 
 
 def lateral_bench() -> Iterator[Check]:
@@ -469,6 +564,10 @@ def accepted_calls() -> Iterator[Check]:
     otr1 = model.load(sheets.write(sheets.plain()), 0, Lists(9), [None] * 3)
     yield Check("load: result of OTR1", otr1, (6, 2, 9, begin[0], 3, begin[1], 3, 0, 0))
     yield Check("load: reach records", bench.records, [*draft.reaches, None])
+    records: list = [None] * 3
+    otr3 = model.load(sheets.write(sheets.plain_bands()), 0, Lists(9), records)
+    yield Check("load: result of OTR3, whose bands stand behind all that it tells of", otr3, bench.loaded)
+    yield Check("load: reach records of OTR3, as typed", records, draft.reaches)
     for row, flow in ((0, 20_000), (1, 25_000), (2, 8_000), (3, 60_000)):
         lists, alone = Lists(9), Lists(9)
         model.load(bench.sheet, row, lists, [None] * 3)
@@ -524,10 +623,12 @@ def pool_tests() -> Iterator[Check]:
     yield Check("a closing", after_closing(table, 3), [*table[:2], Slot(0, 2, 3, 6, 2), *table[3:]])
 
     sheet, lists, records, high = sheets.write(sheets.plain()), Lists(9), [None] * 3, [2 ** 32 - 1] * 2
+    gap = sheets.write(sheets.plain_bands().with_table(2, sheets.GAP))
     wide = [Slot(1, 1_000, 25, 0, 0), *[closed] * 7]
     full = [Slot(1, 0, 1_016, 0, 0), *[closed] * 7]
     for name, handed, wanted in (
             ("4 before 17", (9, sheet + b"x", 0, lists, records, 0, [], wide, HIGHEST + 1), (4, None)),
+            ("19 before 17", (9, gap, 0, lists, records, 0, [], wide, HIGHEST + 1), (19, ("reach", 3))),
             ("17 before 18", (1, sheet, 0, lists, records, 0, [], wide, HIGHEST + 1), (17, None)),
             ("17 by one segment", (2, sheet, 0, lists, records, 1_024, [], full, 0), (17, None)),
             ("18 before 13", (2, sheet, 1, Lists(8), records, 0, [], wide, HIGHEST + 1), (18, None)),
@@ -584,7 +685,7 @@ def search_bench() -> Iterator[Check]:
 def bracket_tests() -> Iterator[Check]:
     """The brackets hold the fractions and are narrow, on small rivers."""
     rng = random.Random("brackets")
-    for case in chain(sheets.small_rivers(rng, 12), sheets.small_rivers(rng, 12, sheets.draw_flow_river)):
+    for case in chain(*(sheets.small_rivers(rng, 12, draw) for draw in sheets.DRAWERS)):
         solved, bracketed = (exact.SheetsRiver(case.sheet, kind) for kind in ("fractions", "brackets"))
         for river in (solved, bracketed):
             river.step_to(river.M)
@@ -601,6 +702,9 @@ def checks() -> Iterator[Check]:
     yield from call_tests()
     yield from flow_row_tests()
     yield from flow_in_force_tests()
+    yield from band_tests()
+    yield from table_tests()
+    yield from band_bench()
     yield from upstream_tests()
     yield from flow_bench()
     yield from lateral_bench()

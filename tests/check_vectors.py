@@ -4,6 +4,7 @@
 
 NNNNN.otr is a sheet, NNNNN.txt its listing; answers.txt has a loading's answer for
 each, with the place, which the listing does not show: it is compared with the model's.
+Where there is no place the answer ends with the number, or with None.
 """
 from __future__ import annotations
 
@@ -26,7 +27,7 @@ class Vector(NamedTuple):
 def vectors(folder: Path) -> list[Vector]:
     """Every sheet of the folder must have its listing and its answer, and the other way round."""
     lines = (folder / "answers.txt").read_text().splitlines()
-    answers = dict(line.split(" ", 1) for line in lines)
+    answers = dict(line.removesuffix(" None").split(" ", 1) for line in lines)
     for kind in ("*.otr", "[0-9]*.txt"):
         if {path.stem for path in folder.glob(kind)} != set(answers):
             raise ProgramFault(f"{folder}: {kind} and answers.txt do not name the same vectors")
@@ -37,7 +38,9 @@ def vectors(folder: Path) -> list[Vector]:
 def model_answer(sheet: bytes) -> str:
     """The model's answer as answers.txt writes it."""
     refusal = model.answer(sheet)
-    return "accepted" if refusal is None else f"refused {refusal.number} {refusal.place}"
+    if refusal is None:
+        return "accepted"
+    return f"refused {refusal.number}" + (f" {refusal.place}" if refusal.place else "")
 
 
 def differences(path: str, found: list[Vector]) -> Iterator[str]:

@@ -10,7 +10,7 @@ segment's middle (document 02, 2), EXACT the same with half-step numbers in whol
 OTIS, USGS WRIR 98-4018: the boundary concentration stands on the face above segment 1 (equations B10 to B14), area
 and dispersion are averaged singly at a face (equation B2), flow is taken at a segment's middle and not rounded, and
 a boundary value counts from the step that begins at its time.  A flow row, which the report does not have, holds
-from the new side of its step in all of them.
+from the new side of its step in all of them, and so does a segment's band, by its flow rounded down.
 """
 from __future__ import annotations
 
@@ -109,8 +109,10 @@ def segment_numbers(header: Header, reach: Reach, Q: float, above: float, below:
 class Course:
     """One flow's numbers, and what the elimination makes of them on the new side of a step."""
 
-    def __init__(self, header: Header, own: list[Reach], scheme: Scheme) -> None:
-        Q, AD, last = float_flows(header, own, scheme), faces(own, scheme), len(own) - 1
+    def __init__(self, header: Header, found: Sheet, scheme: Scheme) -> None:
+        Q = float_flows(header, model.reach_of_segments(found.reaches), scheme)
+        own = model.reaches_at(found, list(map(math.floor, Q)))
+        AD, last = faces(own, scheme), len(own) - 1
         self.river = [segment_numbers(header, reach, Q[at], AD[at], AD[at + 1], at == 0, at == last, scheme)
                       for at, reach in enumerate(own)]
         self.p: list[float] = []
@@ -128,7 +130,7 @@ class FloatRiver:
     def __init__(self, found: Sheet, scheme: Scheme) -> None:
         self.rows, self.flow_rows, self.late = found.rows, found.flow_rows, scheme.late_rows
         own = model.reach_of_segments(found.reaches)
-        self.courses = [Course(header, own, scheme) for header in model.headers(found)]
+        self.courses = [Course(header, found, scheme) for header in model.headers(found)]
         self.Kd = [reach.Kd for reach in own]
         self.C = [float(reach.start) for reach in own]
         self.Z, self.W = list(self.C), list(self.C)

@@ -9,6 +9,7 @@ from __future__ import annotations
 
 import sys
 from collections.abc import Iterable, Iterator
+from itertools import islice
 from pathlib import Path
 from typing import NamedTuple
 
@@ -45,6 +46,7 @@ def two_reaches() -> Draft:
 def chosen() -> Iterator[Lent]:
     yield from without_flow_rows()
     yield from with_flow_rows()
+    yield from with_bands()
 
 
 def without_flow_rows() -> Iterator[Lent]:
@@ -63,7 +65,7 @@ def without_flow_rows() -> Iterator[Lent]:
     yield Lent(UNKNOWN_MARK + sheet[len(MARK):])
     for cut in (*range(len(MARK), len(sheet), 15), offset(full, "count of reaches") + 1):   # 2, in every section
         yield Lent(sheet[:cut])
-    for case in sheets.counted_sheets(full):                    # 3
+    for case in islice(sheets.counted_sheets(full), 0, None, 5):        # 3
         yield Lent(case.sheet)
     yield Lent(sheet + b"\0")                                   # 4
     yield Lent(write(full.with_header(dt=0)) + b"\0")
@@ -114,6 +116,40 @@ def with_flow_rows() -> Iterator[Lent]:
     for draft in (sheets.falling(114, *[114] * (last - 1), 113), sheets.halving(100, *[0, 100] * (last // 2))):
         yield Lent(write(draft), row=last)
     yield Lent(write(sheets.filling(0, 334)), row=2)            # 12 before 13
+
+
+def with_bands() -> Iterator[Lent]:
+    """Each flow's set by its bands, each ground of 19 with its reach, the tests beside it, and 10 to 12 by the bands."""
+    low, high = (900, 400, 300), (1_500, 600, 700)
+    full = two_reaches().with_flows((1, 0), (4, 7_000), (9, 60)).with_bands(sheets.parted(60, low, high),
+                                                                            sheets.parted(61, high, low)[::-1])
+    for row in range(5):                                        # 13 past the rows
+        yield Lent(write(full), row=row)
+    yield Lent(write(full), records=1)                          # 13
+    small = brook(dt=1, Q=500, U=9, M=3).with_flows((1, 0), (3, 501)).with_bands(
+        sheets.parted(501, (100, 60, 90), (120, 70, 80)))
+    sheet, count = write(small), offset(small, "count of bands of reach 1")
+    for row in (0, 1, 2):
+        yield Lent(sheet, row=row)
+    for case in sheets.band_marks(small):                       # 1, 2, 3 and 4
+        yield Lent(case.sheet)
+    for cut in range(count + 1, len(sheet), 11):                # 2
+        yield Lent(sheet[:cut])
+    for figure in (model.MOST_BANDS + 1, 2 ** 31, sheets.HIGHEST_FIELD):        # 3
+        yield Lent(put(sheet, count, figure))
+    yield Lent(sheet + b"\0", row=4)                            # 4 before 13
+    for table in sheets.good_tables().values():
+        if len(table) < 4:
+            yield Lent(write(small.with_table(0, [band._replace(A=100, D=60, AS=90) for band in table])))
+    for name, table in sheets.bad_tables().items():             # 19
+        if len(table) < 4 and "every segment's" not in name and str(2 ** 31) not in name:
+            yield Lent(write(small.with_table(0, table)))
+    for first, second in ((sheets.GAP, sheets.OVERLAP), ([], sheets.OVERLAP), (sheets.OVERLAP, [])):
+        yield Lent(write(full.with_bands(first, second)))       # the lowest reach
+    for number in (6, 16, 10, 12):                              # 6 and 16 before 19, and 19 before 10 and 12
+        yield Lent(sheets.with_faults(sheets.plain_bands(), sorted((number, 19)), {}, {}))
+    for fault in sheets.band_flow_faults():                     # 10 to 12
+        yield Lent(write(fault.draft))
 
 
 def answer(lent: Lent) -> str:

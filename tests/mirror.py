@@ -620,14 +620,18 @@ def distinct_draft() -> sheets.Draft:
                         [Row(0, 7_000), Row(2, 900_000), Row(3, 0), Row(5, 44_000)], [1, 3, 5])
 
 
-def with_flow_rows(draft: sheets.Draft) -> sheets.Draft:
-    """The same with four flow rows: one at step 1, two one behind the other, one at M, and no two flows alike."""
-    return draft.with_flows((1, 25_000), (3, 15_000), (4, 40_000), (draft.header.M, 31_000))
+def with_flows_and_bands(draft: sheets.Draft) -> sheets.Draft:
+    """The same with four flow rows: one at step 1, two one behind the other, one at M, and no two flows alike.
+
+    The second reach has other areas and dispersion while the flow is above 30,000 mL/s.
+    """
+    flowing = draft.with_flows((1, 25_000), (3, 15_000), (4, 40_000), (draft.header.M, 31_000))
+    return flowing.with_bands([], sheets.parted(30_000, (12_000, 5_100, 2_100), (17_000, 6_100, 4_300)))
 
 
 def commands(draft: sheets.Draft) -> list[Command]:
     """Every helper, accepted and refused, on lists of different lengths, before a loading and after it."""
-    flowing = with_flow_rows(draft)
+    flowing = with_flows_and_bands(draft)
     return [Command.of(line) for line in (*plain_commands(draft), *flow_commands(flowing), *shared_commands(flowing))]
 
 

@@ -40,8 +40,8 @@ def untrue(rng: random.Random, true: list[int], limit: int) -> Iterator[list[int
 
 
 def river_of(library: Library, rng: random.Random, tally: Tally, segments: int) -> Run:
-    """A good river of so many segments, with flow rows or without, loaded; both lists go on behind it."""
-    draw = rng.choice((sheets.draw_river, sheets.draw_flow_river))
+    """A good river of so many segments, with flow rows, bands or without, loaded; both lists go on behind it."""
+    draw = rng.choice(sheets.DRAWERS)
     run = Run(library, rng, tally, sheets.write(sheets.good_river(rng, segments, STEPS, draw)), "")
     for name in SEARCHED:
         run.shelf.add(name, draw_words(rng, entries(name, segments) + 2))

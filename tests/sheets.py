@@ -8,22 +8,23 @@ from __future__ import annotations
 
 import math
 import random
-from collections.abc import Callable, Iterator
+from collections.abc import Callable, Iterable, Iterator
 from dataclasses import dataclass, field, replace
 from fractions import Fraction
-from itertools import accumulate, combinations
+from itertools import accumulate, combinations, product
 from typing import NamedTuple, Optional
 
 import model
-from model import (CONCENTRATION, FIELD, FLOW, FLOW_MARK, HIGHEST, HIGHEST_FLOW, HIGHEST_KD, HIGHEST_RATE,
-                   KD_UNIT, LATERAL, LONGEST_SHEET, MARK, MOST_FLOW_ROWS, MOST_GAUGES, MOST_REACHES, MOST_ROWS,
-                   MOST_SEGMENTS, MOST_STEPS, ONE_WHOLE, RATE_UNIT, REACH_RANGES, FlowRow, Header, Range, Reach, Row)
+from model import (BAND_MARK, BAND_RANGES, CONCENTRATION, FIELD, FLOW, FLOW_MARK, HIGHEST, HIGHEST_FLOW, HIGHEST_KD,
+                   HIGHEST_RATE, KD_UNIT, LATERAL, LONGEST_SHEET, MARK, MARKS, MOST_BANDS, MOST_FLOW_ROWS, MOST_GAUGES,
+                   MOST_REACHES, MOST_ROWS, MOST_SEGMENTS, MOST_STEPS, ONE_WHOLE, RATE_UNIT, REACH_RANGES, Band, FlowRow,
+                   Header, Range, Reach, Row)
 
 HIGHEST_FIELD = 2 ** 32 - 1
 BUFFER = 65_536                     # a length at which a program may stop reading
 ACCEPTED = 0                        # in place of a refusal's number
-UNKNOWN_MARK = b"OTR3"
-ORDER = (*range(1, 10), 16, 10, 11, 12)     # of a loading's tests, but for 13
+UNKNOWN_MARK = b"OTR4"
+ORDER = (*range(1, 10), 16, 19, 10, 11, 12)     # of a loading's tests, but for 13
 
 
 class Case(NamedTuple):
@@ -39,13 +40,17 @@ class Case(NamedTuple):
 
 @dataclass
 class Draft:
-    """The fields of a sheet, before they are written: marked OTR1 without flow rows, OTR2 with a list of them."""
+    """The fields of a sheet, before they are written: marked OTR1 without flow rows, OTR2 with a list of them.
+
+    With flow rows and a list of bands for each reach it is marked OTR3.
+    """
 
     header: Header
     reaches: list[Reach]
     rows: list[Row] = field(default_factory=lambda: [Row(0, 0)])
     gauges: list[int] = field(default_factory=lambda: [1])
     flow_rows: Optional[list[FlowRow]] = None
+    bands: Optional[list[list[Band]]] = None
 
     def with_header(self, **changes: int) -> Draft:
         return replace(self, header=self.header._replace(**changes))
@@ -59,12 +64,22 @@ class Draft:
         """The same with these flow rows: start steps and top flows."""
         return replace(self, flow_rows=[FlowRow(*row) for row in rows])
 
+    def with_bands(self, *tables: list[Band]) -> Draft:
+        """The same with these bands of the first reaches, and none of the others."""
+        return replace(self, bands=[*tables, *([] for _ in self.reaches[len(tables):])])
+
+    def with_table(self, at: int, bands: list[Band]) -> Draft:
+        """The same with these bands of one reach, the others' as they are."""
+        return replace(self, bands=[bands if reach == at else before for reach, before in enumerate(self.bands)])
+
     @property
     def segments(self) -> int:
         return model.segment_count(self.reaches)
 
     @property
     def mark(self) -> bytes:
+        if self.bands is not None:
+            return BAND_MARK
         return MARK if self.flow_rows is None else FLOW_MARK
 
 
@@ -75,6 +90,11 @@ class Field(NamedTuple):
     figure: int
     allowed: Range
     number: int
+
+    @property
+    def outside(self) -> int:
+        """The lowest figure that is not in its range."""
+        return 0 if self.allowed.low else self.allowed.high + 1
 
 
 def fields(draft: Draft) -> list[Field]:
@@ -98,6 +118,11 @@ def fields(draft: Draft) -> list[Field]:
         for at, row in enumerate(draft.flow_rows, 1):
             found.append(Field(f"flow row {at} start", row.start, Range(1, M), 16))
             found.append(Field(f"flow row {at} top flow", row.top_flow, FLOW, 16))
+    for at, bands in enumerate(draft.bands or (), 1):
+        found.append(Field(f"count of bands of reach {at}", len(bands), Range(0, MOST_BANDS), 3))
+        for number, band in enumerate(bands, 1):
+            found += [Field(f"reach {at} band {number} {name}", figure, BAND_RANGES[name], 19)
+                      for name, figure in band._asdict().items()]
     return found
 
 
@@ -325,7 +350,70 @@ def draw_flow_river(rng: random.Random, segments: int, steps: int, **choices) ->
     return with_flow_rows(rng, draw_river(rng, segments, steps, **choices))
 
 
+def covering(lows: Iterable[int], figures: Callable[[], tuple[int, int, int]]) -> list[Band]:
+    """Bands that cover all flows in rising order, from 0 and from each of these on, with A, D and AS of the maker."""
+    begins = sorted({0, *lows})
+    ends = [*(low - 1 for low in begins[1:]), HIGHEST_FLOW]
+    return [Band(low, high, *figures()) for low, high in zip(begins, ends)]
+
+
+def in_any_order(rng: random.Random, bands: list[Band]) -> list[Band]:
+    return rng.choice((bands, bands[::-1], rng.sample(bands, len(bands))))
+
+
+def any_figures(rng: random.Random) -> dict[str, int]:
+    """A, D and AS from their whole ranges."""
+    return {name: log_uniform(rng, 1, REACH_RANGES[name].high) for name in ("A", "D", "AS")}
+
+
+def random_bands(rng: random.Random, reach: Reach, flows: list[int], grown: float, wild: bool) -> list[Band]:
+    """Bands of a reach, up to 32 in any order; some begin at a flow of its segments or right behind one.
+
+    Where A grows at least as much as any AD, and AS as much as A, tests 11 and 12 pass as they do without bands; else
+    the figures lie around the reach's own.
+    """
+    count = rng.choice((1, 2, 2, 3, 6, MOST_BANDS))
+    lows: set[int] = set()
+    while len(lows) < count - 1:
+        low = rng.choice((*(rng.choice(flows) + more for more in (0, 0, 1)), log_uniform(rng, 1, HIGHEST_FLOW),
+                          rng.randint(1, HIGHEST_FLOW)))
+        if 1 <= low <= HIGHEST_FLOW:
+            lows.add(low)
+
+    def figures() -> tuple[int, int, int]:
+        if wild:
+            names = ("A", "D", "AS")
+            return tuple(within(REACH_RANGES[name], getattr(reach, name) * 4 ** (rng.random() - 0.5)) for name in names)
+        A = within(model.AREA, reach.A * grown * (1 + rng.random()))
+        D = within(REACH_RANGES["D"], math.ceil(reach.AD * (1 + (grown - 1) * rng.random()) / A))
+        return A, D, within(model.AREA, math.ceil(reach.AS * A / reach.A) * (1 + rng.random()))
+
+    return in_any_order(rng, covering(lows, figures))
+
+
+def with_random_bands(rng: random.Random, draft: Draft) -> Draft:
+    """Bands in most reaches; the own figures of one that has bands do not count, and mostly show that."""
+    own = model.reach_of_segments(draft.reaches)
+    courses = [model.flows(draft.header._replace(top_flow=top), own)
+               for top in {draft.header.top_flow, *(row.top_flow for row in draft.flow_rows)}]
+    grown, wild = rng.choice((1.0, 1.1, 2.0, 5.0)), draft.segments < 30 and rng.random() < 0.3
+    tables: list[list[Band]] = []
+    first = 0
+    for at, reach in enumerate(list(draft.reaches)):
+        flows = [flow for course in courses for flow in course[first:first + reach.segments]]
+        first += reach.segments
+        tables.append(random_bands(rng, reach, flows, grown, wild) if rng.random() < 0.8 else [])
+        if tables[-1] and rng.random() < 0.7:
+            draft = draft.with_reach(at, **any_figures(rng))
+    return draft.with_bands(*tables)
+
+
+def draw_band_river(rng: random.Random, segments: int, steps: int, **choices) -> Draft:
+    return with_random_bands(rng, draw_flow_river(rng, segments, steps, **choices))
+
+
 Drawer = Callable[..., Draft]
+DRAWERS: tuple[Drawer, ...] = (draw_river, draw_flow_river, draw_band_river)
 
 
 def good_river(rng: random.Random, segments: int, steps: int, draw: Drawer = draw_river, **choices) -> Draft:
@@ -339,8 +427,9 @@ def good_river(rng: random.Random, segments: int, steps: int, draw: Drawer = dra
 
 def describe(draft: Draft) -> str:
     rows = "" if draft.flow_rows is None else f", {len(draft.flow_rows)} flow rows"
+    bands = "" if draft.bands is None else f", {sum(map(len, draft.bands))} bands"
     return (f"{draft.segments} segments in {len(draft.reaches)} reaches, {draft.header.M} steps, "
-            f"dt {draft.header.dt}, dx {draft.header.dx}{rows}")
+            f"dt {draft.header.dt}, dx {draft.header.dx}{rows}{bands}")
 
 
 def small_rivers(rng: random.Random, count: int, draw: Drawer = draw_river) -> Iterator[Case]:
@@ -360,15 +449,23 @@ def rivers(rng: random.Random, count: int, most: int = 2_000, draw: Drawer = dra
 
 
 def unsifted_rivers(rng: random.Random, count: int, draw: Drawer = draw_river) -> Iterator[Case]:
-    """As drawn, with one to three reach fields drawn anew from their whole range: the model decides."""
+    """As drawn, with one to three fields of reaches or bands drawn anew from their whole range: the model decides."""
     for _ in range(count):
         draft = draw(rng, rng.randint(1, 12), rng.randint(1, 12))
         for _ in range(rng.randint(1, 3)):
-            name = rng.choice([each for each in Reach._fields if each != "segments"])
+            at, name = rng.randrange(len(draft.reaches)), rng.choice([each for each in Reach._fields if each != "segments"])
+            bands = list(draft.bands[at]) if draft.bands is not None else []
+            if bands:
+                name = rng.choice((name, "A", "D", "AS"))
             allowed = REACH_RANGES[name]
             inside = log_uniform(rng, max(1, allowed.low), allowed.high)
             figure = rng.choice((allowed.low, allowed.high, inside))
-            draft = draft.with_reach(rng.randrange(len(draft.reaches)), **{name: figure})
+            if bands and name in Band._fields:
+                which = rng.randrange(len(bands))
+                bands[which] = bands[which]._replace(**{name: figure})
+                draft = draft.with_table(at, bands)
+            else:
+                draft = draft.with_reach(at, **{name: figure})
         yield Case(f"{describe(draft)}, {name} {figure}", write(draft))
 
 
@@ -404,6 +501,17 @@ def plain() -> Draft:
 def plain_flows() -> Draft:
     """The plain river with three flow rows, one at the last step."""
     return plain().with_flows((1, 25_000), (3, 8_000), (6, 60_000))
+
+
+def plain_bands() -> Draft:
+    """The plain river with flow rows and bands in its first and third reach, which are not in the order of flows.
+
+    A segment of the first is in each of its bands, by the flow row; those of the third are in two at the top flow.
+    """
+    first = [Band(10_000, 24_999, 9_000, 6_000, 1_800), Band(25_000, HIGHEST_FLOW, 14_000, 7_000, 2_500),
+             Band(0, 9_999, 6_000, 4_000, 900)]
+    third = [Band(20_150, HIGHEST_FLOW, 11_000, 5_500, 2_100), Band(0, 20_149, 8_000, 6_500, 1_700)]
+    return plain_flows().with_bands(first, [], third)
 
 
 def rate_for(parts: int, dt: int) -> Optional[int]:
@@ -657,8 +765,8 @@ def lateral_rivers(rng: random.Random, count: int) -> Iterator[Case]:
                 yield Case(f"{describe(flowing)}: {top} mL/s {name}", write(flowing), number, "brackets")
 
 
-def fullest(rng: random.Random) -> Draft:
-    """The most reaches, rows, gauges and flow rows: the longest sheet there is."""
+def fullest_flows(rng: random.Random) -> Draft:
+    """The most reaches, rows, gauges and flow rows: the longest sheet without bands."""
     reach = plain().reaches[0]._replace(segments=1, qout=3_000)
     steps = MOST_ROWS - 1
     return Draft(Header(dt=10, dx=1_000, M=steps, interval=steps - 1, top_flow=20_000),
@@ -669,6 +777,17 @@ def fullest(rng: random.Random) -> Draft:
                  [at * MOST_REACHES // MOST_GAUGES for at in range(1, MOST_GAUGES + 1)],
                  [FlowRow(at * steps // MOST_FLOW_ROWS, rng.randint(0, 60_000))
                   for at in range(1, MOST_FLOW_ROWS + 1)])
+
+
+def fullest(rng: random.Random) -> Draft:
+    """The most bands in each reach too: the longest sheet there is."""
+    def bands() -> list[Band]:
+        lows = rng.sample(range(1, 60_000), MOST_BANDS - 1)
+        return in_any_order(rng, covering(lows, lambda: (rng.randint(8_000, 12_000), rng.randint(5_000, 6_000),
+                                                         rng.randint(1_500, 2_500))))
+
+    draft = fullest_flows(rng)
+    return draft.with_bands(*(bands() for _ in draft.reaches))
 
 
 def broad_rivers(rng: random.Random) -> Iterator[Case]:
@@ -707,6 +826,11 @@ def lengthened_sheets(rng: random.Random, draft: Draft) -> Iterator[Case]:
 
 def longest_sheets(rng: random.Random) -> Iterator[Case]:
     """The longest sheet whole, cut by a byte and with bytes after it, which a program sees only if it reads them."""
+    flows = write(fullest_flows(rng))
+    yield Case("the longest sheet without bands", flows, ACCEPTED)
+    yield Case("the longest sheet without bands, cut by a byte", flows[:-1], 2)
+    yield Case("the longest sheet without bands, a byte added", flows + b"\0", 4)
+    yield Case("the longest sheet without bands, as long as the longest", flows.ljust(LONGEST_SHEET, b"\0"), 4)
     draft = fullest(rng)
     sheet = write(draft)
     if len(sheet) != LONGEST_SHEET:
@@ -723,10 +847,10 @@ def longest_sheets(rng: random.Random) -> Iterator[Case]:
 def marked_sheets(rng: random.Random, draft: Draft) -> Iterator[Case]:
     """Another mark, whatever follows."""
     own, rest = draft.mark, write(draft)[len(MARK):]
-    marks = [b"OTR0", b"OTR3", b"OTR4", b"otr1", b"otr2", b"1RTO", b"2RTO", b"OTRI", b"\0\0\0\0", b" OTR", b"OTR\n"]
+    marks = [b"OTR0", b"OTR4", b"OTR5", b"otr1", b"otr3", b"1RTO", b"3RTO", b"OTRI", b"\0\0\0\0", b" OTR", b"OTR\n"]
     marks += [own[:at] + bytes([own[at] ^ 1 << bit]) + own[at + 1:]
               for at in range(len(own)) for bit in range(8)]
-    for mark in marks:
+    for mark in (mark for mark in marks if mark not in MARKS):
         yield Case(f"mark {mark!r}", mark + rest, 1)
         yield Case(f"mark {mark!r} alone", mark, 1)
         yield Case(f"mark {mark!r}, then anything", mark + rng.randbytes(rng.randint(0, 300)), 1)
@@ -753,14 +877,14 @@ def counted_sheets(draft: Draft) -> Iterator[Case]:
             yield Case(f"{each.name} {figure}, bytes added", wrong + bytes(7), 3)
             for inside in range(FIELD):
                 yield Case(f"{each.name} {figure}, cut in it", wrong[:at + inside], 2)
-        for figure in (1, each.figure - 1, each.figure + 1, each.allowed.high):
+        for figure in (1, max(0, each.figure - 1), each.figure + 1, each.allowed.high):
             yield Case(f"{each.name} {figure} for {each.figure}", put(sheet, at, figure))
     for first, later in zip(counts, counts[1:]):
         first_at, later_at = offset(draft, first.name), offset(draft, later.name)
-        wrong = put(sheet, later_at, 0)
-        yield Case(f"{later.name} 0, cut before it", wrong[:later_at], 2)
-        yield Case(f"{later.name} 0, cut after {first.name}", wrong[:first_at + FIELD + 1], 2)
-        yield Case(f"{later.name} 0, {first.name} 0", put(wrong, first_at, 0), 3)
+        wrong = put(sheet, later_at, later.outside)
+        yield Case(f"{later.name} {later.outside}, cut before it", wrong[:later_at], 2)
+        yield Case(f"{later.name} {later.outside}, cut after {first.name}", wrong[:first_at + FIELD + 1], 2)
+        yield Case(f"{later.name} {later.outside}, {first.name} {first.outside}", put(wrong, first_at, first.outside), 3)
 
 
 def end_of_range_sheets(draft: Draft) -> Iterator[Case]:
@@ -800,8 +924,12 @@ def disordered_sheets(draft: Draft) -> Iterator[Case]:
         yield Case(f"gauges {gauges}", write(replace(draft, gauges=list(gauges))), ACCEPTED)
 
 
+GAP, OVERLAP = ([Band(0, 49, 9_000, 6_000, 1_800), Band(50 + more, HIGHEST_FLOW, 9_000, 6_000, 1_800)] for more in (1, -1))
+BAD_TABLES = ([Band(0, HIGHEST_FLOW, 0, 6_000, 1_800)], OVERLAP, GAP)      # a field out of range; by one flow
+
+
 def draft_fault(number: int, draft: Draft, at: int) -> Draft:
-    """A draft that breaks test 5 to 12 or 16, in that reach where the test has reaches."""
+    """A draft that breaks test 5 to 12, 16 or 19, in that reach where the test has reaches."""
     M = draft.header.M
     if number == 5:
         return draft.with_header(**(dict(dt=0), dict(dx=9), dict(top_flow=HIGHEST_FLOW + 1))[at])
@@ -818,10 +946,13 @@ def draft_fault(number: int, draft: Draft, at: int) -> Draft:
         change = (dict(start=0), dict(start=M + 1), dict(top_flow=HIGHEST_FLOW + 1))[at]
         wrong = draft.flow_rows[at]._replace(**change)
         return replace(draft, flow_rows=[*draft.flow_rows[:at], wrong, *draft.flow_rows[at + 1:]])
+    if number == 19:
+        return draft.with_table(at, BAD_TABLES[at])
     if number == 10:
         return draft.with_reach(at, qout=HIGHEST_FLOW)
     if number == 11:
-        return draft.with_reach(at, D=0)
+        still = draft.with_reach(at, D=0)
+        return still if draft.bands is None else still.with_table(at, [band._replace(D=0) for band in draft.bands[at]])
     return draft.with_reach(at, LAMBDA=HIGHEST_RATE)
 
 
@@ -832,14 +963,15 @@ def sheet_fault(number: int, sheet: bytes, draft: Draft, late: bool) -> bytes:
     if number == 2:
         return sheet[:-1] if late else sheet[:offset(draft, "reach 2 D")]
     if number == 3:
-        last = "count of gauges" if draft.flow_rows is None else "count of flow rows"
-        return put(sheet, offset(draft, last if late else "count of reaches"), 0)
+        count = [each for each in fields(draft) if each.number == 3][-1 if late else 0]
+        return put(sheet, offset(draft, count.name), count.outside)
     return sheet + bytes(4)
 
 
 def tests_of(draft: Draft) -> list[int]:
     """The numbers of the tests that a sheet goes through, in their order."""
-    return [number for number in ORDER if number != 16 or draft.flow_rows is not None]
+    missing = {16: draft.flow_rows is None, 19: draft.bands is None}
+    return [number for number in ORDER if not missing.get(number)]
 
 
 def with_faults(draft: Draft, numbers: list[int], at: dict[int, int], late: dict[int, bool]) -> bytes:
@@ -895,7 +1027,9 @@ def other_marks(draft: Draft) -> Iterator[Case]:
     yield Case("OTR2 without flow rows", sheet[:end], 2)
     yield Case("OTR2 without flow rows, dt 0", write(draft.with_header(dt=0))[:end], 2)
     yield Case("OTR2 without flow rows, bytes added", sheet[:end] + bytes(FIELD), 3)
-    yield Case("OTR3 with flow rows", UNKNOWN_MARK + sheet[len(MARK):], 1)
+    yield Case("OTR3 without bands", BAND_MARK + sheet[len(MARK):], 2)
+    yield Case("OTR3 without flow rows", BAND_MARK + sheet[len(MARK):end], 2)
+    yield Case("another mark with flow rows", UNKNOWN_MARK + sheet[len(MARK):], 1)
 
 
 def disordered_flows(draft: Draft) -> Iterator[Case]:
@@ -1023,6 +1157,268 @@ def flow_rivers() -> Iterator[Case]:
     yield case("a day with snowmelt", base.with_header(M=60, interval=5).with_flows(*day))
 
 
+# Bands
+
+
+def band_marks(draft: Draft) -> Iterator[Case]:
+    """Sheets with a section too many or too few for their mark, or with counts of bands for other reaches than there are."""
+    sheet, reaches = write(draft), len(draft.reaches)
+    begins = [offset(draft, f"count of bands of reach {reach}") for reach in range(1, reaches + 1)]
+    end, gauges = begins[0], offset(draft, "count of flow rows")
+    yield Case("OTR2 with bands", FLOW_MARK + sheet[len(MARK):], 4)
+    yield Case("OTR2 with bands, dt 0", FLOW_MARK + write(draft.with_header(dt=0))[len(MARK):], 4)
+    yield Case("OTR2 with a count of bands alone", FLOW_MARK + sheet[len(MARK):end + FIELD], 4)
+    yield Case("OTR2 of the same river", FLOW_MARK + sheet[len(MARK):end], ACCEPTED)
+    yield Case("OTR1 with flow rows and bands", MARK + sheet[len(MARK):], 4)
+    yield Case("OTR3 without bands, dt 0", write(draft.with_header(dt=0))[:end], 2)
+    yield Case("OTR3 without flow rows", sheet[:gauges] + sheet[end:], 3)     # a figure of a band stands as a count
+    for reach, begin in enumerate(begins, 1):
+        yield Case(f"OTR3 without the bands of reach {reach} and what follows", sheet[:begin], 2)
+        left = reaches - reach + 1
+        for counts, number in ((left - 1, 2), (left, ACCEPTED), (left + 1, 4)):
+            yield Case(f"OTR3 with {counts} counts of 0 from reach {reach} on", sheet[:begin] + bytes(FIELD * counts), number)
+    yield Case("another mark with bands", UNKNOWN_MARK + sheet[len(MARK):], 1)
+
+
+def bands_of(*stretches: tuple[int, int]) -> list[Band]:
+    """Bands with these lowest and highest flows; with their figures the plain river passes 11 and 12."""
+    return [Band(low, high, 9_000 + 10 * at, 6_000 + at, 1_800 + at) for at, (low, high) in enumerate(stretches)]
+
+
+def seams(count: int) -> list[tuple[int, int]]:
+    """So many stretches one behind the other, over all flows; most of them where the plain river's flows are."""
+    lows = [0, *(7_000 + 1_000 * at for at in range(count - 1))]
+    return list(zip(lows, [*(low - 1 for low in lows[1:]), HIGHEST_FLOW]))
+
+
+def good_tables() -> dict[str, list[Band]]:
+    """Tables in which every flow is in one band."""
+    top, full = HIGHEST_FLOW, seams(MOST_BANDS)
+    return {
+        "one band": bands_of((0, top)),
+        "touching": bands_of((0, 20_149), (20_150, top)),
+        "touching, in falling order": bands_of((20_150, top), (0, 20_149)),
+        "the first of one flow": bands_of((0, 0), (1, top)),
+        "the last of one flow": bands_of((0, top - 1), (top, top)),
+        "the last of one flow, in falling order": bands_of((top, top), (0, top - 1)),
+        "one flow between two": bands_of((20_151, top), (20_150, 20_150), (0, 20_149)),
+        "four in another order": bands_of((20_000, 29_999), (30_000, top), (0, 9_999), (10_000, 19_999)),
+        "32 bands": bands_of(*full),
+        "32 bands in falling order": bands_of(*full[::-1]),
+        "32 bands in another order": bands_of(*random.Random(32).sample(full, MOST_BANDS)),
+        "31 bands of one flow each": bands_of((31, top), *((flow, flow) for flow in range(MOST_BANDS - 1))),
+    }
+
+
+def bad_tables() -> dict[str, list[Band]]:
+    """Tables with each ground of 19."""
+    top = HIGHEST_FLOW
+    found = {
+        "a gap of one": bands_of((0, 49), (51, top)),
+        "a gap of one, in falling order": bands_of((51, top), (0, 49)),
+        "overlapping by one": bands_of((0, 50), (50, top)),
+        "overlapping by one, in falling order": bands_of((50, top), (0, 50)),
+        "flow 0 in none": bands_of((1, top)),
+        "flow 0 in none, two bands": bands_of((50, top), (1, 49)),
+        "one short of the top": bands_of((0, top - 1)),
+        "one short of the top, two bands": bands_of((50, top - 1), (0, 49)),
+        "one flow": bands_of((0, 0)),
+        "flow 0 twice": bands_of((0, 0), (0, top)),
+        "the top twice": bands_of((0, top), (top, top)),
+        "the top twice, in two bands that touch the third": bands_of((0, top - 1), (top, top), (top, top)),
+        "the same band twice": bands_of((0, top), (0, top)),
+        "a band inside another": bands_of((0, top), (50, 60)),
+        "a band around another": bands_of((50, 60), (0, top)),
+        "an overlap as wide as the gap": bands_of((0, 50), (50, 98), (100, top)),
+        "an overlap as wide as the gap, in falling order": bands_of((100, top), (50, 98), (0, 50)),
+        "a gap as wide as the band that stands twice": bands_of((0, 49), (0, 49), (100, top)),
+        "an overlap of the first and the last on the sheet": bands_of((0, 99), (200, top), (99, 199)),
+        "a gap behind the first on the sheet": bands_of((0, 98), (200, top), (100, 199)),
+        "reversed over all flows": bands_of((top, 0)),
+        "reversed, in the other's place": bands_of((0, 49), (top, 50)),
+        "reversed, where there is nothing to fill": bands_of((0, 49), (51, 50), (50, top)),
+        "reversed, beside one over all": bands_of((0, top), (60, 50)),
+        "a lowest flow out of range, beside one over all": bands_of((0, top), (top + 1, top + 1)),
+        "a highest flow out of range": bands_of((0, top + 1)),
+        "the highest field": bands_of((0, HIGHEST_FIELD)),
+        "from one above the top to the highest field": bands_of((0, top), (top + 1, HIGHEST_FIELD)),
+    }
+    for name, allowed in BAND_RANGES.items():
+        for figure in (0, allowed.high + 1, 2 ** 31, HIGHEST_FIELD):
+            if not allowed.holds(figure):
+                first, second = bands_of((50, top), (0, 49))
+                found[f"{name} {figure} in the band of no segment"] = [first, second._replace(**{name: figure})]
+                found[f"{name} {figure} in every segment's band"] = [first._replace(**{name: figure}), second]
+    for at, (low, high) in enumerate(full := seams(MOST_BANDS)):
+        for less, what in ((1, "a gap"), (-1, "an overlap")):
+            if high < top:
+                wrong = [*full[:at], (low, high - less), *full[at + 1:]]
+                found[f"{what} behind band {at + 1} of 32"] = bands_of(*(wrong if at % 2 else wrong[::-1]))
+    return found
+
+
+class BandFault(NamedTuple):
+    """A sheet that 19 refuses, and the reach that it names."""
+
+    name: str
+    draft: Draft
+    reach: int
+
+
+def band_faults() -> Iterator[BandFault]:
+    """Each ground of 19 in a reach of three, and every two kinds of them in two reaches: the lowest reach decides."""
+    draft, bad, good = plain_bands(), bad_tables(), good_tables()["one band"]
+    for at, (name, table) in enumerate(bad.items()):
+        yield BandFault(f"reach {1 + at % 3}: {name}", draft.with_table(at % 3, table), 1 + at % 3)
+    kinds = [bad[name] for name in ("A 0 in the band of no segment", "reversed over all flows", "overlapping by one",
+                                    "a gap of one", "one short of the top")]
+    for (lower, higher), here, there in product(((1, 2), (2, 3), (1, 3)), kinds, kinds):
+        tables = {lower: here, higher: there}
+        yield BandFault(f"reaches {lower} and {higher}",
+                        draft.with_bands(*(tables.get(reach, good) for reach in (1, 2, 3))), lower)
+
+
+def band_fault_cases() -> Iterator[Case]:
+    for fault in band_faults():
+        yield Case(fault.name, write(fault.draft), 19)
+
+
+Figures = tuple[int, int, int]      # A, D and AS of a band
+
+
+def parted(cut: int, low: Figures, high: Figures) -> list[Band]:
+    """Two bands in falling order: one from the cut on, one below it."""
+    return [Band(cut, HIGHEST_FLOW, *high), Band(0, cut - 1, *low)]
+
+
+def two_brooks(top_flow: int, row_flow: int, first: list[Band], second: list[Band]) -> Draft:
+    """The brook with dt 1 as two reaches of a segment each, with these bands."""
+    draft = brook(1, top_flow, 3_000, 2)
+    return replace(draft, reaches=draft.reaches * 2, gauges=[1, 2]).with_flows((1, row_flow)).with_bands(first, second)
+
+
+def band_flow_faults() -> Iterator[FlowFault]:
+    """Tests 10 to 12 where a band's figures decide: with the reach's own the river passes 11 and 12."""
+    fine = (100, 50, 100)           # 11 allows 1,000 in a segment of the brook, and T is at most a half with dt 1
+    # 11 allows 500 with half the dispersion, and nothing without any
+    halved = parted(501, fine, (100, 25, 100))
+    yield FlowFault("11 by the band of the top flow", brook(1, 501).with_flows((1, 500)).with_bands(halved), 11, 1)
+    yield FlowFault("11 by the band of a row", brook(1, 500).with_flows((1, 501)).with_bands(halved), 11, 1)
+    for name, D, segment in (("of the second segment's own", 1_000, 2), ("of the segment below", 976, 1)):
+        table = parted(950, (1_000, 0, 1_000), (1_000, D, 1_000))       # flows of 977 and 931
+        yield FlowFault(f"11 by the band {name}", slope(1_000, 2).with_flows((1, 2_000)).with_bands(table), 11, segment)
+    # 12 by A in e, by A in l beside e, by AS in b, all with dt 2
+    for name, cut, low, high, changes in (
+            ("e", 500, fine, (50, 100, 100), {}), ("l", 5, (10, 25, 100), (1, 25, 100), {"qin": 60_000, "qout": 60_000}),
+            ("b", 500, fine, (100, 50, 1), {"ALPHA": 10_100_000})):
+        for where, flows in (("the top flow", (cut, cut - 1)), ("a row", (cut - 1, cut))):
+            draft = brook(2, flows[0], **changes).with_flows((1, flows[1])).with_bands(parted(cut, low, high))
+            yield FlowFault(f"12 by the band of {where}, in {name}", draft, 12, 1)
+    # the first flow at fault decides, and a test is made for all flows before the next
+    for number, bad in ((11, (100, 0, 100)), (12, (20, 250, 100))):
+        above, below = parted(500, fine, bad), parted(500, bad, fine)       # the bad band above the cut, and below it
+        yield FlowFault(f"{number}: the top flow in segment 2, a row in segment 1", two_brooks(10, 600, above, below), number, 2)
+        yield FlowFault(f"{number}: the top flow in segment 1, a row in segment 2", two_brooks(600, 10, above, below), number, 1)
+    still = parted(500, (100, 0, 100), (20, 250, 100))
+    yield FlowFault("11 by the band of a row, 12 by that of the top flow", two_brooks(600, 10, still, still), 11, 1)
+    table = parted(500, (1_000, 1_000, 1_000), (1_000, 0, 1_000))
+    yield FlowFault("10 of a row, 11 by the band of the top flow", slope(1_000, 2).with_flows((1, 68)).with_bands(table),
+                    10, 2)
+
+
+def band_flow_cases() -> Iterator[Case]:
+    for fault in band_flow_faults():
+        yield Case(fault.name, write(fault.draft), fault.number)
+
+
+def by_segment(draft: Draft, top_flow: int) -> Draft:
+    """What the river is while this flow is at the top, without bands: every segment a reach, with its band's figures."""
+    tables = [(reach, bands) for reach, bands in zip(draft.reaches, draft.bands) for _ in range(reach.segments)]
+    reaches = []
+    for (reach, bands), gain in zip(tables, middle_gains(draft)):
+        Q = math.floor(top_flow + gain)
+        found = [band for band in bands if Q in range(band.lowest, band.highest + 1)]
+        A, D, AS = found[0][2:] if bands else (reach.A, reach.D, reach.AS)
+        reaches.append(reach._replace(segments=1, A=A, D=D, AS=AS))
+    return replace(draft, reaches=reaches, bands=None).with_header(top_flow=top_flow)
+
+
+def steady(draft: Draft) -> Draft:
+    """The same with the top flow in every flow row."""
+    return draft.with_flows(*((row.start, draft.header.top_flow) for row in draft.flow_rows))
+
+
+def band_twins(rng: random.Random, count: int) -> Iterator[Case]:
+    """Rivers with bands whose flow stays: each prints what the river by segments prints, which has no bands."""
+    for _ in range(count):
+        draft = steady(good_river(rng, rng.randint(1, MOST_REACHES), rng.randint(1, 6), draw_band_river))
+        yield Case(describe(draft), write(draft), ACCEPTED, twin=write(by_segment(draft, draft.header.top_flow)))
+
+
+def own_bands(draft: Draft, stretches: list[tuple[int, int]]) -> Draft:
+    """Bands with these flows and the own figures of each reach, whose fields have other figures."""
+    tables = [[Band(low, high, reach.A, reach.D, reach.AS) for low, high in stretches] for reach in draft.reaches]
+    others = [reach._replace(A=1_000_000 - reach.A, D=1_000_000 - reach.D, AS=1_000_000 - reach.AS + 1)
+              for reach in draft.reaches]
+    return replace(draft, reaches=others).with_bands(*tables)
+
+
+def band_rivers() -> Iterator[Case]:
+    """Named rivers with bands: beside the same without bands, and at the ends of what the tests allow."""
+    def case(name: str, draft: Draft, exact: str = "brackets") -> Case:
+        return Case(name, write(draft), ACCEPTED, exact)
+
+    def twin(name: str, draft: Draft, other: Draft) -> Case:
+        return Case(name, write(draft), ACCEPTED, "brackets", twin=write(other))
+
+    top, every = HIGHEST_FLOW, [(0, HIGHEST_FLOW)]
+    listing = listing_draft().with_flows((1, 0), (2, 0))
+    for name, draft in (("plain", plain_flows()), ("the listing", listing), ("falling", falling(114, 2_023, 114)),
+                        ("narrowing", narrowing(200, 0, 200)), ("halving", halving(100, 0, 100))):
+        yield twin(f"no bands: {name}", draft.with_bands(), draft)
+        kept = [[Band(0, top, reach.A, reach.D, reach.AS)] for reach in draft.reaches]
+        yield twin(f"one band of the reach's own figures: {name}", draft.with_bands(*kept), draft)
+        for what, stretches in (("one band", every), ("32 bands", seams(MOST_BANDS)[::-1])):
+            yield twin(f"{what}, and other figures of the reach: {name}", own_bands(draft, stretches), draft)
+
+    # any order; segments of one reach in several bands; AD of a neighbour by its own band
+    base = plain_bands()
+    yield case("the plain river with bands", base)
+    for name, table in good_tables().items():
+        draft = base.with_bands(table, table[::-1], table)
+        yield twin(f"in every reach: {name}", draft, base.with_bands(table[::-1], table, table))
+        yield twin(f"the flow stays: {name}", steady(draft), by_segment(steady(draft), 20_000))
+    falls = replace(slope(1_000, 6), gauges=[1, 2, 3, 4, 5, 6]).with_flows((1, 1_000))      # 977, 931, 886, 840, 795, 750
+    for lows in ((795, 796, 886, 932), (751, 795, 840, 887, 931), (886,), (887,), (930, 931, 932)):
+        areas = iter(range(1_000, 9_000, 700))
+        draft = falls.with_bands(covering(lows, lambda: (A := next(areas), 1_200_000 // A, 900 + A % 7)))
+        yield twin(f"one reach that loses water, bands from {lows}", draft, by_segment(draft, 1_000))
+
+    # a segment changes its band at a row: e, g, l and b have other figures on the two sides of the step
+    brooks = brook(2, 0, 3_000, 6, ALPHA=30_000_000, qin=9_000, qout=9_000, CL=70_000, LAMHAT=40_000_000, LAMHAT2=90_000_000,
+                   RHO=900, Kd=3, CB=5_000, start=800)
+    edge = parted(500, (150, 40, 300), (200, 50, 120))
+    for flows in ((499, 500), (500, 499), (0, 500, 0, 500), (500, 0)):
+        rows = list(enumerate(flows[1:], 2))
+        yield case(f"flows of {flows} at an edge", brooks.with_header(top_flow=flows[0]).with_flows(*rows).with_bands(edge),
+                   "fractions")
+    yield case("two segments, with D 0 below the edge",
+               two_brooks(0, 500, parted(500, (100, 0, 100), (120, 60, 100)), parted(500, (90, 0, 80), (100, 50, 100))),
+               "fractions")
+
+    # at the ends: flows 0 and 100,000,000 have bands of their own; what no flow falls into does not count
+    U = [Row(0, 1), Row(1, 2), Row(2, 5), Row(3, HIGHEST), Row(4, HIGHEST - 1), Row(6, 8)]
+    wide = one_reach(100, 10_000, 0, U, segments=4, A=1, D=0, start=HIGHEST).with_flows((2, top), (4, 0), (5, top))
+    yield case("from no flow to the highest and back", wide.with_bands(
+        [Band(1, top - 1, 1, 0, 1), Band(top, top, 1_000_000, 1_000_000, 1), Band(0, 0, 1_000_000, 7, 9)]))
+    whole = brook(2, 999, 3_000, 3).with_flows((2, 1_000)).with_bands(parted(1_000, (1_000_000, 1, 1), (100, 50, 100)))
+    yield case("e is one whole in a band", whole, "fractions")
+    yield case("b is one whole in a band", brook(2, 499, 3_000, 3, ALPHA=10_000_000).with_flows((2, 500)).with_bands(
+        parted(500, (100, 50, 100), (100, 50, 1))), "fractions")
+    yield case("11 just passes in two bands", brook(1, 500, 3_000, 3).with_flows((2, 1_000)).with_bands(
+        parted(501, (100, 25, 100), (100, 50, 100))), "fractions")
+
+
 def work(sheet: bytes) -> int:
     """Segments times steps of an accepted sheet, else 0."""
     try:
@@ -1041,7 +1437,7 @@ def changed(rng: random.Random, kind: str, at: int, sheet: bytes) -> bytes:
     if kind == "a field":
         figure = rng.choice((0, 1, rng.randint(0, HIGHEST_FIELD)))
         return put(sheet, max(len(MARK), at // FIELD * FIELD), figure)
-    stretch = rng.choice((1, FIELD, FIELD * len(Reach._fields)))
+    stretch = rng.choice((1, FIELD, FIELD * len(Band._fields), FIELD * len(Reach._fields)))
     if kind == "a stretch lost":
         return sheet[:at] + sheet[at + stretch:]
     if kind == "a stretch doubled":
@@ -1071,4 +1467,4 @@ def paused_sheets(rng: random.Random, draft: Draft) -> Iterator[Case]:
     yield Case("a byte added after a pause", sheet + b"\0", 4, "", (len(sheet),))
     yield Case("cut, after a pause", sheet[:-1], 2, "", (len(sheet) - 9,))
     full = write(replace(fullest(rng), rows=[Row(0, 9)]).with_flows((1, 9_000)).with_header(M=1, interval=1))
-    yield Case("a long sheet in pieces", full, ACCEPTED, "", (1_000, 4_096, 4_200))
+    yield Case("a long sheet in pieces", full, ACCEPTED, "", (1_000, 4_096, 4_200, 40_000))

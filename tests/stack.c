@@ -113,6 +113,11 @@ static void most_blocks(void)
     u = yumbaqel_most_blocks();
 }
 
+static void most_bands(void)
+{
+    u = yumbaqel_most_bands();
+}
+
 static void version(void)
 {
     u = yumbaqel_version();
@@ -215,6 +220,7 @@ int main(void)
     measure("most_off", most_off);
     measure("most_rivers", most_rivers);
     measure("most_blocks", most_blocks);
+    measure("most_bands", most_bands);
     measure("version", version);
     measure("upstream", upstream);
     measure("start", start);

@@ -16,7 +16,7 @@ def measured(archive: str, folder: Path) -> dict[str, int]:
                     str(ROOT / "tests" / "stack.c"), archive)
     rng = random.Random(1)
     found: dict[str, int] = {}
-    cases = chain(sheets.large_rivers(rng, 1), sheets.faulty_pairs(sheets.plain_flows()))
+    cases = chain(sheets.large_rivers(rng, 1), sheets.faulty_pairs(sheets.plain_bands()))
     for sheet in (sheets.write(sheets.fullest(rng)), sheets.write(sheets.plain()), *(each.sheet for each in cases)):
         run = subprocess.run([path], input=sheet, capture_output=True, timeout=60)
         for line in run.stdout.decode().splitlines():

@@ -34,7 +34,7 @@ import stack
 from calls import Answer, Caller, Run, Tally
 from library import FIGURES, KINDS, ROOT, STRICT, BuildFault, Library, compiled, shared_object
 from mirror import (LOADED, MACROS, NO_FLOW, OTHER_LISTS, REACH, ROW_LISTS, SETS, SHARED_WORDS, STATE_LISTS, Mirror,
-                    commands, distinct_draft, with_flow_rows)
+                    commands, distinct_draft, with_flows_and_bands)
 from model import (COLUMNS, HIGHEST, MOST_BLOCKS, MOST_FLOW_ROWS, MOST_REACHES, MOST_ROWS, MOST_SEGMENTS, MOST_STEPS,
                    SET, Row)
 from pools import PoolCalls
@@ -85,7 +85,7 @@ STRUCTS = (
 )
 REFUSALS = ("ACCEPTED", "MARK", "SHORT_SHEET", "COUNT", "LONG_SHEET", "HEADER", "REACH_FIELD", "SEGMENTS",
             "BOUNDARY_ROW", "GAUGE", "FLOW", "FACE", "SUM", "SHORT_LIST", "FIGURE", "STEPS_DONE", "FLOW_ROW",
-            "NO_ROOM", "NOT_OPEN")
+            "NO_ROOM", "NOT_OPEN", "BAND")
 KIND_NAMES = {"NOTHING": None, "REACH": "reach", "SEGMENT": "segment", "ROW": "row"}
 TRIED = (1 + 2, 15 + 1, 16 + 1)     # the figures that a macro is tried on
 
@@ -95,7 +95,7 @@ def constants(library: Library, used: int) -> dict[str, int]:
     return {"VERSION": library.call("version"), "SCALE": model.ONE_WHOLE, "HIGHEST": HIGHEST,
             "MOST_SEGMENTS": MOST_SEGMENTS, "MOST_STEPS": MOST_STEPS, "MOST_REACHES": MOST_REACHES,
             "MOST_ROWS": MOST_ROWS, "MOST_GAUGES": model.MOST_GAUGES, "MOST_FLOW_ROWS": MOST_FLOW_ROWS,
-            "MOST_RIVERS": model.MOST_RIVERS, "BLOCKS": MOST_BLOCKS, "NO_FLOW": NO_FLOW,
+            "MOST_BANDS": model.MOST_BANDS, "MOST_RIVERS": model.MOST_RIVERS, "BLOCKS": MOST_BLOCKS, "NO_FLOW": NO_FLOW,
             "LONGEST_SHEET": model.LONGEST_SHEET, "STACK": 1 << used.bit_length(), "SHARED_WORDS": SHARED_WORDS}
 
 
@@ -114,9 +114,10 @@ def wanted_names(right: dict[str, int]) -> list[str]:
 
 
 def called_numbers(right: dict[str, int]) -> list[str]:
-    """The calls that are lent nothing, as the recorder has them, and their results: two of these are constants too."""
+    """The calls that are lent nothing, as the recorder has them, and their results: four of these are constants too."""
     lines = []
-    for name, constant in (("version", "VERSION"), ("most_rivers", "MOST_RIVERS"), ("most_blocks", "BLOCKS")):
+    for name, constant in (("version", "VERSION"), ("most_rivers", "MOST_RIVERS"), ("most_blocks", "BLOCKS"),
+                           ("most_bands", "MOST_BANDS")):
         lines += [f" call yumbaqel_{name}", f"{name} {right[constant]}"]
     for steps in (0, 1, MOST_STEPS, sheets.HIGHEST_FIELD):
         lines += [f" call yumbaqel_most_off steps {steps}", f"most_off {steps} {exact.ALLOWED * steps}"]
@@ -199,6 +200,7 @@ class Situations:
             "FLOW_ROW": self.told(good.with_flows((1, 0), (1, 0))),
             "NO_ROOM": self.opened(0),
             "NOT_OPEN": not_open,
+            "BAND": self.told(sheets.plain_bands().with_table(1, sheets.GAP)),
         }
 
     def limit_holds(self, name: str, figure: int, used: int) -> bool:
@@ -212,6 +214,7 @@ class Situations:
             "MOST_ROWS": lambda c: replace(many.with_header(M=MOST_STEPS), rows=[Row(at, 0) for at in range(c)]),
             "MOST_GAUGES": lambda c: replace(many, gauges=list(range(1, c + 1))),
             "MOST_FLOW_ROWS": lambda c: many.with_header(M=MOST_STEPS).with_flows(*((at, 0) for at in range(1, c + 1))),
+            "MOST_BANDS": lambda c: sheets.plain_bands().with_table(2, sheets.bands_of(*sheets.seams(c))),
         }.get(name)
         if taken is not None:
             return self.told(taken(figure))[0] == 0 and self.told(taken(figure + 1))[0] != 0
@@ -250,7 +253,7 @@ class Bench:
         self.recorder = compiled(folder / "librecorder.so", "-shared", "-fPIC", "-O1", "-Wall", "-Werror",
                                  str(folder / "recorder.c"), "-Wl,--no-as-needed", self.shared)
         draft = distinct_draft()
-        self.sheets = tuple(map(sheets.write, (draft, draft.with_reach(1, CB=HIGHEST + 1), with_flow_rows(draft))))
+        self.sheets = tuple(map(sheets.write, (draft, draft.with_reach(1, CB=HIGHEST + 1), with_flows_and_bands(draft))))
         self.commands = commands(draft)
         self.script = "".join(f"{command}\n" for command in self.commands).encode()
         self.files = [folder / name for name in ("good", "bad", "flows")]
@@ -334,11 +337,11 @@ def refusal_comments(header: Header) -> dict[int, str]:
 
 
 def document_refusals() -> dict[int, str]:
-    """Document 01's, and those of document 02's requests 1 and 3."""
+    """Document 01's, and those of document 02's requests 1, 3 and 6."""
     text = DOCUMENT.read_text()
     plain = text[text.index("## Refusals"):text.index("## Promises")].replace("×", "x")
     found = {int(number): words for number, words in re.findall(r"^(\d+)\. (.*)$", plain, re.M)}
-    for errors in re.findall(r"^[13]\. .*Errors: (.*)$", REQUESTS.read_text(), re.M):
+    for errors in re.findall(r"^[136]\. .*Errors: (.*)$", REQUESTS.read_text(), re.M):
         for number, words in re.findall(r"(\d+), (.*?), (?:after|before) \d+[;.]", errors):
             found[int(number)] = f"{words[0].upper()}{words[1:]}."
     return found

@@ -29,8 +29,8 @@ import stack
 from calls import ABOVE, ACCEPTED, LISTS, Caller, Change, Difference, Run, Tally, entries
 from groups import MOST_SHOWN, Group, Trial, say
 from library import CALLS, INCLUDE, OLD, READINGS, ROOT, STRICT, U32, Library, compiled
-from model import (COLUMNS, HIGHEST, HIGHEST_KD, MOST_BLOCKS, MOST_FLOW_ROWS, MOST_REACHES, MOST_RIVERS, MOST_ROWS,
-                   MOST_SEGMENTS, MOST_STEPS, ONE_WHOLE, SET, Row, flow_row_count_at, row_count_at)
+from model import (COLUMNS, HIGHEST, HIGHEST_KD, MOST_BANDS, MOST_BLOCKS, MOST_FLOW_ROWS, MOST_REACHES, MOST_RIVERS,
+                   MOST_ROWS, MOST_SEGMENTS, MOST_STEPS, ONE_WHOLE, SET, Row, flow_row_count_at, row_count_at)
 from sheets import HIGHEST_FIELD
 
 # The groups
@@ -94,7 +94,7 @@ def every_set(case: sheets.Case) -> Trial:
         caller = Caller(library, rng, tally)
         found = model.read_sheet(case.sheet)
         n, rows = model.segment_count(found.reaches), len(found.flow_rows)
-        numbers = range(rows + 1) if n * rows < MOST_SEGMENTS else rng.sample(range(rows + 1), 3)
+        numbers = range(rows + 1) if n * rows < MOST_SEGMENTS else rng.sample(range(rows + 1), min(3, rows + 1))
         for row in (*numbers, rows + 1, HIGHEST_FIELD):
             lengths = [n + rng.randrange(3) for _ in COLUMNS]
             caller.load(case.sheet, lengths, len(found.reaches), case.name, row)
@@ -198,12 +198,13 @@ def lookup(library: Library, rng: random.Random, tally: Tally) -> None:
 
 
 def numbers(library: Library, rng: random.Random, tally: Tally) -> None:
-    """The numbers that carry the claims: the distance that figures are held to, after any count of steps; two limits."""
+    """The numbers that carry the claims: the distance that figures are held to, after any count of steps; three limits."""
     caller = Caller(library, rng, tally)
     for steps in (0, 1, 100, MOST_STEPS, HIGHEST_FIELD, rng.randint(0, HIGHEST_FIELD)):
         caller.reading("most_off", exact.ALLOWED * steps, U32(steps))
     caller.reading("most_rivers", MOST_RIVERS)
     caller.reading("most_blocks", MOST_BLOCKS)
+    caller.reading("most_bands", MOST_BANDS)
 
 
 def cases(rng: random.Random) -> Iterator[sheets.Case]:
@@ -221,17 +222,12 @@ def cases(rng: random.Random) -> Iterator[sheets.Case]:
     yield from sheets.many_faults(rng, sheets.plain(), 100)
     yield from sheets.changed_sheets(rng, 150)
     yield from sheets.unsifted_rivers(rng, 150)
-    yield sheets.Case("the longest sheet", sheets.write(sheets.fullest(rng)))
     yield from (sheets.Case(f"{length} random bytes", rng.randbytes(length)) for length in range(0, 120, 9))
 
 
-def flow_cases(rng: random.Random) -> Iterator[sheets.Case]:
-    """Sheets with flow rows, of every kind, for single loadings."""
-    draft, draw = sheets.plain_flows(), sheets.draw_flow_river
-    yield from sheets.flow_rivers()
-    yield from sheets.flow_fault_cases()
+def cases_of(rng: random.Random, draft: sheets.Draft, draw: sheets.Drawer) -> Iterator[sheets.Case]:
+    """What sheets with flow rows and sheets with bands have in common."""
     yield from sheets.disordered_flows(draft)
-    yield from sheets.other_marks(draft)
     yield from rng.sample(list(sheets.cut_sheets(draft)), 90)
     yield from islice(sheets.lengthened_sheets(rng, draft), 20)
     yield from islice(sheets.marked_sheets(rng, draft), 20)
@@ -242,8 +238,32 @@ def flow_cases(rng: random.Random) -> Iterator[sheets.Case]:
     yield from sheets.many_faults(rng, draft, 100)
     yield from sheets.changed_sheets(rng, 150, draw=draw)
     yield from sheets.unsifted_rivers(rng, 150, draw)
-    yield from (sheets.Case(f"OTR2, {length} random bytes", model.FLOW_MARK + rng.randbytes(length))
+    yield from (sheets.Case(f"{draft.mark.decode()}, {length} random bytes", draft.mark + rng.randbytes(length))
                 for length in range(0, 120, 9))
+
+
+def flow_cases(rng: random.Random) -> Iterator[sheets.Case]:
+    """Sheets with flow rows, of every kind, for single loadings."""
+    draft = sheets.plain_flows()
+    yield from sheets.flow_rivers()
+    yield from sheets.flow_fault_cases()
+    yield from sheets.other_marks(draft)
+    yield from cases_of(rng, draft, FLOWS)
+    yield sheets.Case("the longest sheet without bands", sheets.write(sheets.fullest_flows(rng)))
+
+
+def band_cases(rng: random.Random) -> Iterator[sheets.Case]:
+    """Sheets with bands, of every kind, for single loadings."""
+    draft = sheets.plain_bands()
+    yield from sheets.band_rivers()
+    yield from sheets.band_fault_cases()
+    yield from sheets.band_flow_cases()
+    yield from sheets.band_marks(draft)
+    yield from cases_of(rng, draft, BANDS)
+    longest = sheets.write(sheets.fullest(rng))
+    for name, sheet in (("the longest sheet", longest), ("the longest sheet, cut", longest[:-1]),
+                        ("the longest sheet, a byte added", longest + b"\0")):
+        yield sheets.Case(name, sheet)
 
 
 CASE_ANSWERS = {"rows": {ACCEPTED, (13, None)}, **dict.fromkeys(("gauge", "flow", "dt", "dx"), {ACCEPTED})}
@@ -259,17 +279,22 @@ RUN_ANSWERS = {
 OWN_ANSWERS = {"step": {ACCEPTED, (15, None)}, "search": {ACCEPTED, ABOVE},
                **dict.fromkeys(("load", "rows", "gauge", "upstream", "flow", "start", "report"), {ACCEPTED})}
 LARGE_ANSWERS = {"load": {ACCEPTED}, "start": {ACCEPTED}, "step": {ACCEPTED}}
-FLOWS = sheets.draw_flow_river
+FLOWS, BANDS = sheets.draw_flow_river, sheets.draw_band_river
 
 GROUPS = (
     Group("loadings of every kind", lambda rng: map(loading, cases(rng)), {"load": SHEET_ANSWERS, **CASE_ANSWERS}),
     Group("loadings of sheets with flow rows", lambda rng: map(loading, flow_cases(rng)),
           {"load": SHEET_ANSWERS | {(16, "row")}, **CASE_ANSWERS}),
+    Group("loadings of sheets with bands", lambda rng: map(loading, band_cases(rng)),
+          {"load": SHEET_ANSWERS | {(16, "row"), (19, "reach")}, **CASE_ANSWERS}),
     Group("every flow's set", lambda rng: map(every_set, chain(
         sheets.flow_rivers(), sheets.rivers(rng, 15, 400, FLOWS), sheets.large_rivers(rng, 1, 70, FLOWS),
         sheets.small_rivers(rng, 5))), {"load": {ACCEPTED, (13, None)}, "flow": {ACCEPTED}}),
+    Group("every flow's set by its bands", lambda rng: map(every_set, chain(
+        sheets.band_rivers(), sheets.rivers(rng, 30, 400, BANDS), sheets.large_rivers(rng, 2, 70, BANDS))),
+          {"load": {ACCEPTED, (13, None)}, "flow": {ACCEPTED}}),
     Group("numbers that carry the claims", lambda rng: iter((numbers,)),
-          dict.fromkeys(("most_off", "most_rivers", "most_blocks"), {ACCEPTED})),
+          dict.fromkeys(("most_off", "most_rivers", "most_blocks", "most_bands"), {ACCEPTED})),
     Group("lookups of U", lambda rng: (lookup for _ in range(400)),
           {"upstream": {ACCEPTED, (3, None), (8, "row")}}),
     Group("the sheets' own rivers",
@@ -278,8 +303,12 @@ GROUPS = (
     Group("the sheets' own rivers, with flow rows",
           lambda rng: map(own_river, chain(sheets.flow_rivers(), sheets.small_rivers(rng, 15, FLOWS),
                                            sheets.rivers(rng, 15, 400, FLOWS))), OWN_ANSWERS, True),
+    Group("the sheets' own rivers, with bands",
+          lambda rng: map(own_river, chain(sheets.band_rivers(), sheets.small_rivers(rng, 15, BANDS),
+                                           sheets.rivers(rng, 15, 400, BANDS))), OWN_ANSWERS, True),
     Group("wrong pairs of sets",
-          lambda rng: map(wrong_pairs, chain(sheets.small_rivers(rng, 5, FLOWS), sheets.rivers(rng, 3, 400, FLOWS))),
+          lambda rng: map(wrong_pairs, chain(sheets.small_rivers(rng, 5, FLOWS), sheets.rivers(rng, 3, 400, FLOWS),
+                                             sheets.small_rivers(rng, 2, BANDS))),
           {"step": {ACCEPTED, (13, None), (14, "segment")}}, True),
     Group("calls of every kind, in fractions",
           lambda rng: (run_of(each, 40) for each in sheets.small_rivers(rng, 100)), RUN_ANSWERS, True),
@@ -299,6 +328,15 @@ GROUPS = (
           RUN_ANSWERS, True),
     Group("flow rows, figures at the highest",
           lambda rng: (run_of(each, 40) for each in sheets.highest_rivers(rng, 30, FLOWS)), RUN_ANSWERS, True),
+    Group("bands, in fractions",
+          lambda rng: (run_of(each, 40) for each in sheets.small_rivers(rng, 60, BANDS)), RUN_ANSWERS, True),
+    Group("bands, between bounds",
+          lambda rng: (run_of(each, 60) for each in sheets.rivers(rng, 30, 400, BANDS)), RUN_ANSWERS, True),
+    Group("bands, half-step sums at one whole",
+          lambda rng: (run_of(each, 40) for each in sheets.tight_rivers(rng, 25, BANDS) if each.exact),
+          RUN_ANSWERS, True),
+    Group("bands, figures at the highest",
+          lambda rng: (run_of(each, 40) for each in sheets.highest_rivers(rng, 30, BANDS)), RUN_ANSWERS, True),
     Group("highest figures and searches", lambda rng: map(searches.every_block, searches.LENGTHS),
           {"start": {ACCEPTED}, "step": {ACCEPTED}, "search": {ACCEPTED, ABOVE}}),
     Group("searches of any lists", lambda rng: map(searches.any_lists, searches.LENGTHS),
@@ -308,7 +346,8 @@ GROUPS = (
            "search": {ACCEPTED, (13, None)}}),
     Group("highest figures at the cut", lambda rng: iter((searches.at_the_cut,)), {"search": {ACCEPTED, ABOVE}}),
     Group("the largest rivers", lambda rng: (run_of(each, 12) for each in chain(
-        sheets.large_rivers(rng, 3), sheets.large_rivers(rng, 2, 8, FLOWS))), LARGE_ANSWERS, True),
+        sheets.large_rivers(rng, 3), sheets.large_rivers(rng, 2, 8, FLOWS), sheets.large_rivers(rng, 2, 8, BANDS))),
+          LARGE_ANSWERS, True),
 )
 
 
@@ -328,6 +367,13 @@ def melting() -> sheets.Draft:
     return pulse().with_flows(*flows)
 
 
+def in_flood() -> sheets.Draft:
+    """The same with bands: while the flow is high, the first and the third reach are wider and mix more."""
+    low, high = (9_000, 6_000, 1_800), (15_000, 9_000, 4_000)
+    table = sheets.parted(40_000, low, high)
+    return melting().with_bands(table, [], table[::-1])
+
+
 def longest() -> bytes:
     """A sheet that is accepted and as long as a sheet can be."""
     sheet = sheets.write(sheets.fullest(random.Random(1)))
@@ -341,7 +387,8 @@ def example_sheets() -> list[bytes]:
     good, fullest = sheets.write(pulse()), longest()
     return [good, good[:-1], good + b"\0", sheets.write(pulse().with_reach(1, Kd=HIGHEST_KD + 1)),
             sheets.write(pulse().with_reach(2, D=0)), sheets.write(melting()),
-            sheets.write(melting().with_flows((0, 1))), fullest, fullest + b"\0", fullest + bytes(1_000)]
+            sheets.write(melting().with_flows((0, 1))), sheets.write(in_flood()),
+            sheets.write(in_flood().with_table(2, sheets.GAP)), fullest, fullest + b"\0", fullest + bytes(1_000)]
 
 
 def refused_line(refusal: model.Refusal) -> str:
@@ -527,15 +574,15 @@ def run_gate(archive: str, folder: Path, total: Tally) -> None:
         wanted = gate_lines(sheet, gauge, limit)
         for piped in (False, True):
             gate.compare(gate.run(sheet, gauge, limit, piped=piped), wanted, f"gauge {gauge}, limit {limit}")
-        seen |= {word for word in ("shut", "open", "refused 4\n", "refused 6 reach 2\n", "refused 16 row 1\n")
-                 if word in wanted}
+        seen |= {word for word in ("shut", "open", "refused 4\n", "refused 6 reach 2\n", "refused 16 row 1\n",
+                                   "refused 19 reach 3\n") if word in wanted}
     for gauge in (0, 4):
         gate.compare(gate.run(sheets.write(pulse()), gauge, 1), "", f"gauge {gauge}, which there is not")
-    moves = [gate_lines(sheets.write(draft), 1, 100_000) for draft in (pulse(), melting())]
-    gate.hold(moves[0] != moves[1], "flow rows do not show")
+    moves = [gate_lines(sheets.write(draft), 1, 100_000) for draft in (pulse(), melting(), in_flood())]
+    gate.hold(len(set(moves)) == 3, "flow rows or bands do not show")
     for near in near_limits():
         gate.hold(gate_lines(*near) != gate_lines(*near, per_step=0), f"the margin does not show at limit {near.limit}")
-    gate.hold(len(seen) == 5, f"shows too little: {seen}")
+    gate.hold(len(seen) == 6, f"shows too little: {seen}")
     gate.close(total)
 
 

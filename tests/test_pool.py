@@ -112,7 +112,7 @@ class Opening(NamedTuple):
 
 
 ORDER_OF_OPENING = (*sheets.ORDER, 17, 18, 13, 14)
-DRAFT = sheets.plain_flows()        # 9 segments in 3 reaches, 3 flow rows
+DRAFT = sheets.plain_bands()        # 9 segments in 3 reaches, 3 flow rows
 N, REACHES, ROWS = DRAFT.segments, len(DRAFT.reaches), len(DRAFT.flow_rows)
 FREE = 6                            # a number under which no river is open in the tables below
 
@@ -425,7 +425,7 @@ def opening_of(case: sheets.Case) -> Trial:
 
 
 def sheets_of_every_kind(rng: random.Random) -> Iterator[sheets.Case]:
-    for draft in (sheets.plain(), sheets.plain_flows()):
+    for draft in (sheets.plain(), sheets.plain_flows(), sheets.plain_bands()):
         yield from sheets.faulty_pairs(draft)
         yield from sheets.counted_sheets(draft)
         yield from rng.sample(list(sheets.cut_sheets(draft)), 20)
@@ -435,6 +435,9 @@ def sheets_of_every_kind(rng: random.Random) -> Iterator[sheets.Case]:
     yield from sheets.extreme_rivers()
     yield from sheets.flow_fault_cases()
     yield from sheets.flow_rivers()
+    yield from sheets.band_fault_cases()
+    yield from sheets.band_flow_cases()
+    yield from sheets.band_rivers()
     yield sheets.Case("the longest sheet", sheets.write(sheets.fullest(rng)))
     yield from (sheets.Case(f"{length} random bytes", rng.randbytes(length)) for length in range(0, 60, 9))
 
@@ -624,11 +627,10 @@ def at_the_cut(library: Library, rng: random.Random, tally: Tally) -> None:
 
 
 def stock_of(rng: random.Random, lengths: list[int], steps: int, exact: str) -> list[sheets.Case]:
-    """A sheet for each of these counts of segments, with flow rows and without."""
+    """A sheet for each of these counts of segments, with flow rows, with bands and without."""
     found = []
     for segments in lengths:
-        draft = sheets.good_river(rng, segments, rng.randint(1, steps),
-                                  rng.choice((sheets.draw_river, sheets.draw_flow_river)))
+        draft = sheets.good_river(rng, segments, rng.randint(1, steps), rng.choice(sheets.DRAWERS))
         found.append(sheets.Case(sheets.describe(draft), sheets.write(draft), exact=exact))
     return found
 
@@ -732,7 +734,7 @@ OPENED = {ACCEPTED, *((number, None) for number in (17, 18, 13, 14))}
 CALLED = {ACCEPTED, (18, None), (13, None), (14, None), (14, "segment")}
 CLOSED_ANSWERS = {ACCEPTED, (18, None)}
 SHEET_ANSWERS = {ACCEPTED, *((number, None) for number in (1, 2, 3, 4, 5, 7, 17)), (6, "reach"), (8, "row"),
-                 (9, "row"), (10, "segment"), (11, "segment"), (12, "segment"), (16, "row")}
+                 (9, "row"), (10, "segment"), (11, "segment"), (12, "segment"), (16, "row"), (19, "reach")}
 SEARCHED = {ACCEPTED, ABOVE, (18, None), (13, None)}
 RUN_ANSWERS = {"pool_open": {ACCEPTED, (17, None), (13, None), (14, None)}, "pool_start": CALLED,
                "pool_step": CALLED | {(15, None)}, "pool_report": CALLED, "pool_search": SEARCHED,

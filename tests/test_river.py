@@ -103,8 +103,49 @@ class Group(NamedTuple):
 GOOD = {ACCEPTED}
 REFUSALS = set(range(1, 13))
 FLOW_REFUSALS = REFUSALS | {16}
-PLAIN, FLOWS = sheets.plain(), sheets.plain_flows()
-DRAW_FLOWS = sheets.draw_flow_river
+BAND_REFUSALS = FLOW_REFUSALS | {19}
+PLAIN, FLOWS, BANDS = sheets.plain(), sheets.plain_flows(), sheets.plain_bands()
+
+
+class Least(NamedTuple):
+    """How many sheets the groups of a mark have at least, where that goes by the sections."""
+
+    cut: int
+    counts: int
+    ends: int
+    pairs: int
+
+
+def groups_of(what: str, draft: sheets.Draft, draw: sheets.Drawer, refusals: set[int], least: Least) -> tuple[Group, ...]:
+    """The groups that sheets with flow rows and sheets with bands have in common: damaged ones, and rivers drawn."""
+    def group(title: str, make: Callable[[random.Random], Iterator[Case]], least: int, answers: set[int],
+              exact: bool = False, endless: bool = False) -> Group:
+        return Group(f"{what}: {title}", make, least, answers, exact, endless)
+
+    return (
+        group("sheets cut short", lambda rng: sheets.cut_sheets(draft), least.cut, {1, 2}),
+        group("sheets with bytes added", lambda rng: sheets.lengthened_sheets(rng, draft), 70, {1, 4}),
+        group("other marks", lambda rng: sheets.marked_sheets(rng, draft), 130, {1, 2, 3}),
+        group("other counts", lambda rng: sheets.counted_sheets(draft), least.counts, {2, 3, 4}),
+        group("fields at the ends of their ranges", lambda rng: sheets.end_of_range_sheets(draft), least.ends,
+              GOOD | refusals - {1, 2, 3, 4}),
+        group("rows and gauges out of order", lambda rng: sheets.disordered_sheets(draft), 30, GOOD | {8, 9}),
+        group("starts and top flows at fault", lambda rng: sheets.disordered_flows(draft), 40, GOOD | {16}, exact=True),
+        group("two faults at once", lambda rng: sheets.faulty_pairs(draft), least.pairs, refusals - {12}),
+        group("several faults at once", lambda rng: sheets.many_faults(rng, draft, 200), 200, refusals - {12},
+              endless=True),
+        group("sheets in pieces", lambda rng: sheets.paused_sheets(rng, draft), 11, GOOD | {2, 4}),
+        group("changed sheets", lambda rng: sheets.changed_sheets(rng, 400, draw=draw), 400,
+              GOOD | {2, 3, 5, 6} | refusals - REFUSALS, endless=True),
+        group("rivers with wild fields", lambda rng: sheets.unsifted_rivers(rng, 300, draw), 300,
+              GOOD | {10, 11, 12}, endless=True),
+        group("small rivers, in fractions", lambda rng: sheets.small_rivers(rng, 120, draw), 120, GOOD, True, True),
+        group("rivers of all shapes", lambda rng: sheets.rivers(rng, 120, draw=draw), 120, GOOD, True, True),
+        group("half-step sums at one whole", lambda rng: sheets.tight_rivers(rng, 60, draw), 80, GOOD | {12}, True, True),
+        group("figures at the highest", lambda rng: sheets.highest_rivers(rng, 80, draw), 80, GOOD, True, True),
+        group("large rivers", lambda rng: sheets.large_rivers(rng, 2, draw=draw), 2, GOOD, True, True),
+        group("many steps", lambda rng: sheets.long_rivers(rng, 3, draw=draw), 3, GOOD, True, True))
+
 
 GROUPS = (
     Group("the document's bench", lambda rng: sheets.bench_cases(), 14, GOOD | {6, 7, 10, 11, 12}, exact=True),
@@ -137,33 +178,16 @@ GROUPS = (
     # sheets with flow rows
     Group("rivers whose flow changes", lambda rng: sheets.flow_rivers(), 19, GOOD, exact=True),
     Group("flows at fault", lambda rng: sheets.flow_fault_cases(), 65, {10, 11, 12}),
-    Group("flow rows out of order", lambda rng: sheets.disordered_flows(FLOWS), 40, GOOD | {16}, exact=True),
-    Group("marks and sections that do not fit", lambda rng: sheets.other_marks(FLOWS), 8, GOOD | {1, 2, 3, 4}),
-    Group("flow rows: sheets cut short", lambda rng: sheets.cut_sheets(FLOWS), 280, {1, 2}),
-    Group("flow rows: sheets with bytes added", lambda rng: sheets.lengthened_sheets(rng, FLOWS), 70, {1, 4}),
-    Group("flow rows: other marks", lambda rng: sheets.marked_sheets(rng, FLOWS), 130, {1, 2, 3}),
-    Group("flow rows: other counts", lambda rng: sheets.counted_sheets(FLOWS), 200, {2, 3, 4}),
-    Group("flow rows: fields at the ends of their ranges", lambda rng: sheets.end_of_range_sheets(FLOWS), 450,
-          GOOD | FLOW_REFUSALS - {1, 2, 3, 4}),
-    Group("flow rows: rows and gauges out of order", lambda rng: sheets.disordered_sheets(FLOWS), 30, GOOD | {8, 9}),
-    Group("flow rows: two faults at once", lambda rng: sheets.faulty_pairs(FLOWS), 230, FLOW_REFUSALS - {12}),
-    Group("flow rows: several faults at once", lambda rng: sheets.many_faults(rng, FLOWS, 200), 200,
-          FLOW_REFUSALS - {12}, endless=True),
-    Group("flow rows: sheets in pieces", lambda rng: sheets.paused_sheets(rng, FLOWS), 11, GOOD | {2, 4}),
-    Group("flow rows: changed sheets", lambda rng: sheets.changed_sheets(rng, 400, draw=DRAW_FLOWS), 400,
-          GOOD | {2, 3, 5, 6, 16}, endless=True),
-    Group("flow rows: rivers with wild fields", lambda rng: sheets.unsifted_rivers(rng, 300, DRAW_FLOWS), 300,
-          GOOD | {10, 11, 12}, endless=True),
-    Group("flow rows: small rivers, in fractions", lambda rng: sheets.small_rivers(rng, 120, DRAW_FLOWS), 120, GOOD,
-          True, True),
-    Group("flow rows: rivers of all shapes", lambda rng: sheets.rivers(rng, 120, draw=DRAW_FLOWS), 120, GOOD, True,
-          True),
-    Group("flow rows: half-step sums at one whole", lambda rng: sheets.tight_rivers(rng, 60, DRAW_FLOWS), 80,
-          GOOD | {12}, True, True),
-    Group("flow rows: figures at the highest", lambda rng: sheets.highest_rivers(rng, 80, DRAW_FLOWS), 80, GOOD, True,
-          True),
-    Group("flow rows: large rivers", lambda rng: sheets.large_rivers(rng, 2, draw=DRAW_FLOWS), 2, GOOD, True, True),
-    Group("flow rows: many steps", lambda rng: sheets.long_rivers(rng, 3, draw=DRAW_FLOWS), 3, GOOD, True, True),
+    Group("marks and sections that do not fit", lambda rng: sheets.other_marks(FLOWS), 10, GOOD | {1, 2, 3, 4}),
+    *groups_of("flow rows", FLOWS, sheets.draw_flow_river, FLOW_REFUSALS, Least(280, 200, 450, 230)),
+    # sheets with bands
+    Group("rivers with bands", lambda rng: sheets.band_rivers(), 59, GOOD, exact=True),
+    Group("rivers with bands beside rivers without", lambda rng: sheets.band_twins(rng, 60), 60, GOOD, endless=True),
+    Group("bands at fault", lambda rng: sheets.band_fault_cases(), 199, {19}),
+    Group("flows at fault by their bands", lambda rng: sheets.band_flow_cases(), 16, {10, 11, 12}),
+    Group("marks, sections and counts of bands that do not fit", lambda rng: sheets.band_marks(BANDS), 20,
+          GOOD | {1, 2, 3, 4}),
+    *groups_of("bands", BANDS, sheets.draw_band_river, BAND_REFUSALS, Least(400, 350, 670, 265)),
 )
 
 
@@ -253,7 +277,7 @@ def run_group(pool: ProcessPoolExecutor, path: str, group: Group, rng: random.Ra
 
 
 def run_checks(total: Tally) -> None:
-    """The documents' bench figures, flow rows and tests 13 to 15, of the model."""
+    """The documents' bench figures, flow rows, bands and tests 13 to 15, of the model."""
     faults = 0
     count = 0
     for check in bench.checks():
@@ -277,7 +301,7 @@ def run_vectors(path: str, total: Tally) -> None:
     for fault in faults[:MOST_SHOWN]:
         say(f"  {fault}")
     answers = {number_of(vector.listing) for vector in found}
-    if answers != FLOW_REFUSALS | GOOD:
+    if answers != BAND_REFUSALS | GOOD:
         faults.append("answers missing")
         say(f"  the vectors show only the answers {sorted(answers)}")
     total.checks += len(found)
@@ -345,7 +369,7 @@ def main() -> int:
         f"{total.sheets} sheets ({accepted} accepted, {total.sheets - accepted} refused); "
         f"{total.held} figures within {total.per_step:.3f} per step of the exact river, "
         f"{exact.ALLOWED} allowed")
-    unseen = (FLOW_REFUSALS | GOOD) - set(total.answers)
+    unseen = (BAND_REFUSALS | GOOD) - set(total.answers)
     if total.differences or unseen or total.held == 0 or total.groups < len(GROUPS) + 3:
         say(f"FAILED: {total.differences} differences, answers never seen {sorted(unseen)}")
         return 1

@@ -33,9 +33,11 @@ import sheets
 import snowmelt
 import texts
 import uvas
-from model import FlowRow, Header, Reach, Row
+import weir
+from model import HIGHEST_FLOW, Band, FlowRow, Header, Reach, Row
 from program import ProgramFault, first_difference, printed, program_path
-from sheets import BROOK_REACH, Draft, brook, draw_flow_river, plain, plain_flows, still_reaches, write
+from sheets import (BROOK_REACH, Draft, brook, draw_band_river, draw_flow_river, draw_river, plain, plain_bands, plain_flows,
+                    still_reaches, write)
 
 import command                      # the tools' folder is on the path since `model` was imported
 import curves
@@ -51,7 +53,7 @@ SHEET, CURVES, PROVE, GATE_COST = (ROOT / "tools" / name
 FLOAT_RIVER = ROOT / "tests" / "float_river.py"
 RIVER = ROOT / "target" / "bin" / "river"
 MOST_SHOWN = 10
-DRAFTS = uvas.EXAMPLES | snowmelt.EXAMPLES          # what the examples must hold
+DRAFTS = uvas.EXAMPLES | snowmelt.EXAMPLES | weir.EXAMPLES      # what the examples must hold
 SVG = "{http://www.w3.org/2000/svg}"
 
 
@@ -108,7 +110,7 @@ def unit_checks() -> Iterator[Check]:
     for kind, text, unit, figure in KNOWN_FIGURES:
         yield Check(f"{text} {unit}", units.number(text) * kind.factor(unit), figure)
     rng = random.Random("units")
-    kinds = [*units.REACH_KINDS.values(), *units.HEADER_KINDS.values()]
+    kinds = [*units.REACH_KINDS.values(), *units.HEADER_KINDS.values(), *units.BAND_KINDS.values()]
     for _ in range(200):
         kind, figure = rng.choice(kinds), rng.choice((rng.randrange(2 ** 32), rng.randrange(2_000)))
         for unit in kind.shown:
@@ -137,7 +139,16 @@ def any_fields(rng: random.Random) -> bytes:
     draft = Draft(Header(*figures(len(Header._fields))),
                   [Reach(*figures(len(Reach._fields))) for _ in range(reaches)],
                   [Row(*figures(len(Row._fields))) for _ in range(rows)], figures(gauges))
-    return write(draft.with_flows(*(figures(len(FlowRow._fields)) for _ in range(flows))) if flows else draft)
+    if flows:
+        draft = draft.with_flows(*(figures(len(FlowRow._fields)) for _ in range(flows)))
+    if flows and rng.random() < 0.7:
+        def bands() -> list[Band]:
+            most = rng.choice((0, 0, 1, 3, model.MOST_BANDS))
+            return [rng.choice((Band(*figures(5)), Band(0, HIGHEST_FLOW, *figures(3)))) for _ in range(most)]
+
+        alike = bands() if rng.random() < 0.2 else None
+        draft = draft.with_bands(*(bands() if alike is None else alike for _ in range(reaches)))
+    return write(draft)
 
 
 def sheets_that_pass_4(rng: random.Random) -> Iterator[bytes]:
@@ -145,10 +156,12 @@ def sheets_that_pass_4(rng: random.Random) -> Iterator[bytes]:
     groups = (sheets.bench_cases(), sheets.extreme_rivers(), islice(sheets.end_of_range_sheets(plain()), 0, None, 2),
               sheets.disordered_sheets(plain()), sheets.unsifted_rivers(rng, 60), sheets.changed_sheets(rng, 60),
               sheets.flow_rivers(), sheets.flow_fault_cases(), sheets.disordered_flows(plain_flows()),
-              sheets.unsifted_rivers(rng, 60, draw_flow_river))
+              sheets.unsifted_rivers(rng, 60, draw_flow_river), sheets.band_rivers(), sheets.band_fault_cases(),
+              sheets.band_flow_cases(), islice(sheets.end_of_range_sheets(plain_bands()), 0, None, 8),
+              sheets.unsifted_rivers(rng, 30, draw_band_river))
     made = [*(write(sheets.good_river(rng, rng.randint(1, 40), rng.randint(1, 30), draw))
-              for draw in [sheets.draw_river] * 60 + [draw_flow_river] * 30),
-            *(any_fields(rng) for _ in range(30)), write(sheets.fullest(rng)),
+              for draw in [draw_river] * 60 + [draw_flow_river] * 30 + [draw_band_river] * 20),
+            *(any_fields(rng) for _ in range(40)), write(sheets.fullest_flows(rng)), write(sheets.fullest(rng)),
             *(case.sheet for cases in groups for case in cases)]
     for sheet in made:
         refusal = model.answer(sheet)
@@ -158,16 +171,21 @@ def sheets_that_pass_4(rng: random.Random) -> Iterator[bytes]:
 
 def round_trip_checks() -> Iterator[Check]:
     """make(read(x)) is x, and a mistake is found just where document 01 refuses."""
-    count = 0
+    seen = {mark: 0 for mark in model.MARKS}
     for sheet in sheets_that_pass_4(random.Random("round trips")):
-        count += 1
+        seen[sheet[:4]] += 1
         made = sheet_text.make(sheet_text.read(sheet))
         refusal = model.answer(sheet)
         yield Check("bytes again", made.sheet == sheet, True)
         yield Check("refused or not", {mistake.number for mistake in made.mistakes},
                     {refusal.number} if refusal else set())
         yield Check("nothing rounded", made.rounded, [])
-    yield Check("sheets enough", count > 600, True)
+    yield Check("sheets enough", [count > least for count, least in zip(seen.values(), (400, 200, 300))], [True] * 3)
+    one_row = sheet_text.read(sheet_text.make(texts.ALL_BANDS).sheet)
+    yield Check("what read shows of bands", one_row.split("\n\n")[-2:], [
+        "flow  step  top\nunit  -     L/s\n1     1     20   # 0.00277778 h",
+        "band  reach  lowest  highest  A    D     AS\nunit  -      mL/s    mL/s     m2   m2/s  m2\n"
+        "1     all    0       20099    0.9  0.6   0.18\n2     all    20100   max      1.4  0.7   0.25\n"])
 
 
 def command_checks() -> Iterator[Check]:
@@ -182,6 +200,10 @@ def command_checks() -> Iterator[Check]:
         yield Check("make, flow rows", (flows.returncode, flows.stdout[:4], flows.stderr), (0, b"OTR2", b""))
         back = tool(SHEET, "read", "-", given=flows.stdout)
         yield Check("read, flow rows", tool(SHEET, "make", "-", "-o", "-", given=back.stdout).stdout, flows.stdout)
+        bands = tool(SHEET, "make", "-", "-o", "-", given=texts.BAND_TEXT.encode())
+        yield Check("make, bands", (bands.returncode, bands.stdout[:4], bands.stderr), (0, b"OTR3", b""))
+        back = tool(SHEET, "read", "-", given=bands.stdout)
+        yield Check("read, bands", tool(SHEET, "make", "-", "-o", "-", given=back.stdout).stdout, bands.stdout)
         piped = tool(SHEET, "make", "-", "-o", "-", given=text.read_bytes())
         yield Check("make, piped", piped.stdout, sheet.read_bytes())
         said = tool(SHEET, "explain", sheet)
@@ -273,7 +295,7 @@ def stream_checks(sheet: Path, text: Path, listing: Path) -> Iterator[Check]:
     ran = tool(CURVES, listing, "--sheet", "-", "-o", "-", given=sheet.read_bytes())
     yield Check("curves.py: - for sheet and picture", (ran.returncode, ran.stdout, ran.stderr),
                 (0, picture.read_bytes(), b""))
-    ran = tool(CURVES, listing, "--sheet", "-", given=b"OTR3")
+    ran = tool(CURVES, listing, "--sheet", "-", given=sheets.UNKNOWN_MARK)
     yield Check("curves.py: - is no sheet", (ran.returncode, ran.stderr),
                 (1, b"standard input is refused 1; tools/sheet.py explain says why\n"))
     ran = tool(CURVES, "--sheet", "-", given=sheet.read_bytes())
@@ -296,6 +318,23 @@ def mistake_checks() -> Iterator[Check]:
     for name, text in (("from", texts.FLOW_TEXT), ("step", texts.OTHER_FLOWS)):
         made = sheet_text.make(text)
         yield Check(f"flow rows by {name}", (made.sheet, made.mistakes, made.rounded), (flows, [], []))
+    first = [Band(10_000, 24_999, 9_000, 6_000, 1_800), Band(25_000, HIGHEST_FLOW, 14_000, 7_000, 2_500),
+             Band(0, 9_999, 6_000, 4_000, 900)]
+    second = [Band(20_100, HIGHEST_FLOW, 11_000, 5_500, 2_100), Band(0, 20_099, 8_000, 6_500, 1_700)]
+    banded = two_plain_reaches().with_flows((1, 25_000), (4, 8_000)).with_bands(first, second)
+    for name, text in {"in their two forms": texts.BAND_TEXT, **texts.OTHER_BANDS}.items():
+        made = sheet_text.make(text)
+        yield Check(f"bands: {name}", (made.sheet, made.mistakes, made.rounded), (write(banded), [], []))
+    alike = [Band(0, 20_099, 9_000, 6_000, 1_800), Band(20_100, HIGHEST_FLOW, 14_000, 7_000, 2_500)]
+    for name, text, tables in (("and no flow rows", texts.TEXT + texts.BANDS, (first, second)),
+                               ("of every reach", texts.ALL_BANDS, (alike, alike)), ("none of a reach", texts.NO_BANDS, ())):
+        made = sheet_text.make(text)
+        wanted = write(two_plain_reaches().with_flows((1, 20_000)).with_bands(*tables))
+        yield Check(f"bands: {name}", (made.sheet, made.mistakes, made.rounded), (wanted, [], []))
+    feet = sheet_text.make(texts.FEET_BANDS)
+    yield Check("bands: feet", [band[:2] for band in model.read_sheet(feet.sheet).bands[0]], [(0, 20_104), (20_105, HIGHEST_FLOW)])
+    yield Check("bands: feet, said so", [(note.line, note.words) for note in feet.rounded],
+                [(27, "from of band 2 of reach 1 is ~0.71 ft3/s, that is about 20104.9611 mL/s; 20,105 is taken")])
     yield Check("the report's names", sheet_text.make(texts.REPORT_NAMES).sheet, good.sheet)
     yield Check("lengths and times", sheet_text.make(texts.OTHER_WAYS).sheet, good.sheet)
     feet = model.read_sheet(sheet_text.make(texts.FEET).sheet)
@@ -309,6 +348,9 @@ def mistake_checks() -> Iterator[Check]:
     late = sheet_text.make(texts.edited((19, "2 1e12 900")))
     yield Check("a row's start has no range of its own", [mistake.words for mistake in late.mistakes],
                 ["from of boundary 2 is 1e12 s: a field holds at most 4,294,967,295 (about 42949672900 s)"])
+    beyond = sheet_text.make(texts.edited((35, "1 2 101 1.1 0.55 0.21"), text=texts.BAND_TEXT))
+    yield Check("a band beyond the highest flow ends none before it", [mistake.words.split(";")[0] for mistake in beyond.mistakes],
+                ["lowest flow of band 1 of reach 2 is 101,000,000 mL/s (101 m3/s)"])
     nearest = sheet_text.make(texts.NEAREST)
     yield Check("to the nearest", model.read_sheet(nearest.sheet).header.top_flow, 20_001)
     yield Check("said so", [(note.line, note.words) for note in nearest.rounded],
@@ -319,7 +361,7 @@ def mistake_checks() -> Iterator[Check]:
 def any_text_checks() -> Iterator[Check]:
     """Whatever is written, there is a sheet that the model accepts, or a mistake with a line of the text."""
     rng = random.Random("texts")
-    for _ in range(400):
+    for _ in range(700):
         text = texts.any_text(rng)
         made = sheet_text.make(text)
         count = max(1, len(text.splitlines()))
@@ -335,14 +377,17 @@ def any_text_checks() -> Iterator[Check]:
 def refused_sheets() -> Iterator[bytes]:
     """Sheets of every refusal, with places early and late."""
     rng = random.Random("refusals")
-    base, flows = plain(), plain_flows()
+    base, flows, bands = plain(), plain_flows(), plain_bands()
     for cases in (sheets.faulty_pairs(base), sheets.cut_sheets(base), sheets.counted_sheets(base),
                   sheets.end_of_range_sheets(base), sheets.disordered_sheets(base), sheets.extreme_rivers(),
                   islice(sheets.marked_sheets(rng, base), 0, None, 9), sheets.unsifted_rivers(rng, 60),
                   sheets.faulty_pairs(flows), sheets.cut_sheets(flows), sheets.counted_sheets(flows),
                   islice(sheets.end_of_range_sheets(flows), 0, None, 3), sheets.disordered_flows(flows),
                   sheets.other_marks(flows), sheets.flow_fault_cases(),
-                  sheets.unsifted_rivers(rng, 60, draw_flow_river)):
+                  sheets.unsifted_rivers(rng, 60, draw_flow_river),
+                  sheets.faulty_pairs(bands), sheets.cut_sheets(bands), sheets.counted_sheets(bands),
+                  islice(sheets.end_of_range_sheets(bands), 0, None, 3), sheets.band_marks(bands), sheets.band_fault_cases(),
+                  sheets.band_flow_cases(), sheets.unsifted_rivers(rng, 60, draw_band_river)):
         for case in cases:
             if model.answer(case.sheet) is not None:
                 yield case.sheet
@@ -353,7 +398,7 @@ def told_of_sheets() -> Iterator[tuple[bytes, str, tuple[str, ...]]]:
     base = plain()
     sheet = write(base)
     rows = sheets.offset(base, "row 1 start")
-    yield b"OTR3" + sheet[4:], "refused 1", ("starts with b'OTR3', not with OTR1 or OTR2",)
+    yield b"OTR4" + sheet[4:], "refused 1", ("starts with b'OTR4', not with OTR1, OTR2 or OTR3",)
     yield b"", "refused 1", ("has 0 bytes",)
     yield sheet[:99], "refused 2", ("ends after 99 bytes, inside dispersion D of reach 2",)
     yield sheet[:rows - 4], "refused 2", ("before the count of boundary rows",)
@@ -381,6 +426,7 @@ def told_of_sheets() -> Iterator[tuple[bytes, str, tuple[str, ...]]]:
     yield (sheet, "accepted", ("3 reaches, 9 segments of 10 m: 90 m", "6 steps of 10 s", "T is at most",
                                "gauges in segment 1 (10 m)"))
     yield from told_of_flows()
+    yield from told_of_bands()
 
 
 def told_of_flows() -> Iterator[tuple[bytes, str, tuple[str, ...]]]:
@@ -392,8 +438,8 @@ def told_of_flows() -> Iterator[tuple[bytes, str, tuple[str, ...]]]:
     yield sheet[:-1], "refused 2", ("inside top flow of flow row 3",)
     yield (write(base.with_flows()), "refused 3",
            ("the count of flow rows is 0", "document 02 allows 1 to 64 flow rows"))
-    yield sheet + bytes(5), "refused 4", ("5 bytes follow the last flow row, which ends at byte 292",
-                                          "raise the count of flow rows if they are flow rows")
+    yield sheet + bytes(5), "refused 4", ("5 bytes follow the last flow row, which ends at byte 292", "raise the count of "
+                                          "flow rows if they are flow rows; a sheet with bands is marked OTR3")
     yield model.MARK + sheet[4:], "refused 4", ("28 bytes follow the last gauge, which ends at byte 264",
                                                 "a sheet with flow rows is marked OTR2")
     yield (write(base.with_flows((0, 5), (7, 5))), "refused 16, flow row 1",
@@ -420,11 +466,69 @@ def told_of_flows() -> Iterator[tuple[bytes, str, tuple[str, ...]]]:
         "  flow row 3   6 (0.0166667 h)    60,000 mL/s   60,010 to 60,170 mL/s   0.6017 (segment 9)   0.08"))
 
 
+def told_of_bands() -> Iterator[tuple[bytes, str, tuple[str, ...]]]:
+    """The same of sheets with bands: three in reach 1, none in reach 2, two in reach 3."""
+    base = plain_bands()
+    sheet, end = write(base), len(write(base))
+    counts = [sheets.offset(base, f"count of bands of reach {reach}") for reach in (1, 2, 3)]
+    yield sheet[:counts[0]], "refused 2", ("ends after 292 bytes, before the count of bands of reach 1",)
+    yield sheet[:counts[0] + 7], "refused 2", ("ends after 299 bytes, inside lowest flow of band 1 of reach 1",)
+    yield sheet[:counts[1]], "refused 2", ("before the count of bands of reach 2",)
+    yield sheet[:counts[1] + 6], "refused 2", ("inside the count of bands of reach 3",)
+    yield sheet[:-1], "refused 2", ("inside storage area AS of band 2 of reach 3",)
+    yield sheet[:-16], "refused 2", ("before highest flow of band 2 of reach 3",)
+    yield (sheets.put(sheet, counts[2], 33), "refused 3",
+           ("the count of bands of reach 3 is 33", "document 02 allows 0 to 32 bands"))
+    yield sheet + bytes(5), "refused 4", (f"5 bytes follow the last band of reach 3, which ends at byte {end}",
+                                          "take them off, or raise the count of bands of reach 3 if they are bands")
+    yield (write(base.with_table(2, [])) + bytes(3), "refused 4",
+           ("3 bytes follow the count of bands of reach 3, 0, which ends at byte",))
+    yield (model.FLOW_MARK + sheet[4:], "refused 4", ("follow the last flow row, which ends at byte 292", "is marked OTR3"))
+    gap = [Band(0, 9, 1, 1, 1), Band(12, HIGHEST_FLOW, 1, 1, 1)]
+    yield (write(base.with_table(1, gap).with_table(2, [Band(0, 5, 1, 1, 1)])), "refused 19, reach 2",
+           ("no band of reach 2 holds 10 to 11 mL/s", "end band 1 at 11 mL/s or begin band 2 at 10 mL/s or give 'from' alone",
+            "no band of reach 3 holds 6 to 100,000,000 mL/s", "end band 1 at 100,000,000 mL/s or write 'max' in the text"))
+    several = [Band(5, 4, 0, 1_000_001, 0), Band(HIGHEST_FLOW + 1, HIGHEST_FLOW + 2, 1, 1, 1)]
+    yield (write(base.with_table(2, several)), "refused 19, reach 3",
+           ("channel area A of band 1 of reach 3 is 0 cm2", "dispersion D of band 1 of reach 3 is 1,000,001 cm2/s",
+            "storage area AS of band 1 of reach 3 is 0 cm2", "1 to 1,000,000 cm2",
+            "the highest flow of band 1 of reach 3, 4 mL/s, is below its lowest, 5 mL/s", "exchange them",
+            "lowest flow of band 2 of reach 3 is 100,000,001 mL/s", "highest flow of band 2 of reach 3 is 100,000,002 mL/s"))
+    three = [Band(0, 20, 1, 1, 1), Band(15, HIGHEST_FLOW, 1, 1, 1), Band(18, 30, 1, 1, 1)]
+    yield (write(base.with_table(0, three)), "refused 19, reach 1",
+           ("bands 1 and 2 of reach 1 both hold 15 to 17 mL/s: they go from 0 to 20 mL/s and 15 to 100,000,000 mL/s",
+            "bands 1, 2 and 3 of reach 1 all hold 18 to 20 mL/s", "take out all but one of them",
+            "bands 2 and 3 of reach 1 both hold 21 to 30 mL/s"))
+    slow = [band._replace(D=0) for band in base.bands[0]]
+    yield (write(base.with_table(0, slow)), "refused 11, segment 1",
+           ("in segment 1 (reach 1, band 1) Q × dx, 20,010 × 1,000", "of at least 1,112 cm2/s in band 1 of reach 1 would do here",
+            "  reach 2 has no bands: A, D and AS are the reach's own with every flow",
+            "  top flow     1 to 3     1       1      10,000 to 24,999        20,010 to 20,050\n"))
+    yield (write(base.with_table(0, slow).with_header(top_flow=0).with_reach(0, qin=0)), "refused 10, segment 1",
+           ("the flow is -5 mL/s", "  top flow     1 to 3     1       none                           -25 to -5\n",
+            "               7 to 9     3       2      0 to 20,149             40 to 80\n"))
+    yield (sheet, "accepted", (
+        "3 flow rows, 5 bands, 3 boundary rows; gauges in segment 1 (10 m)",
+        "of AD own + AD below (segment 5, flow row 3)", "T is at most 0.098175 (segment 7, the top flow)",
+        "V is at most 0.049333 (segment 1, flow row 2), h is at most 0.025 (segment 1)",
+        "  flow         from step          at the top    along the river (10)    Q × dx (11)            T (12)                 V (12)\n",
+        "  reach 2 has no bands: A, D and AS are the reach's own with every flow\n",
+        "  flow         segments   reach   band   its flows, mL/s         flow there, mL/s\n",
+        "  top flow     1 to 3     1       1      10,000 to 24,999        20,010 to 20,050\n",
+        "               7          3       2      0 to 20,149             20,130\n",
+        "               8 to 9     3       1      20,150 to 100,000,000   20,150 to 20,170\n",
+        "  flow row 2   1 to 3     1       3      0 to 9,999              8,010 to 8,050\n"))
+    yield (write(base.with_bands(base.bands[0])), "accepted", ("  reaches 2 and 3 have no bands: A, D",))
+    yield (write(base.with_bands(*[base.bands[0]] * 3).with_flows((1, 20_000), (2, 9_000), (3, 20_000), (4, 9_000))), "accepted",
+           ("  flow row 1   as top flow\n", "  flow row 3   as top flow\n  flow row 4   as flow row 2\n"))
+
+
 LONGEST_DX = "the longest dx for which the whole river passes 11, all else unchanged: "
 LONGEST_DT = "the longest dt for which the whole river passes 12, all else unchanged: "
 WITH_THAT_DX = "the longest dt for which the whole river passes 12 with that dx: "
 NO_RIVER = "the longest dx and dt: not to be told while the reaches or the flow at the top are out of range"
 NO_FLOWS = NO_RIVER.replace("the flow at", "a flow at")
+NO_BANDS = "the longest dx and dt: not to be told while the reaches, bands or a flow at the top are at fault"
 
 
 def told_of_longest() -> Iterator[tuple[str, Draft, list[str]]]:
@@ -456,20 +560,51 @@ def told_of_longest() -> Iterator[tuple[str, Draft, list[str]]]:
     yield ("refused 10", sheets.falling(2_000, 113), [f"{LONGEST_DX}994 cm (9.94 m)",
            f"{LONGEST_DT}not to be told while dx or a flow is out of range", f"{WITH_THAT_DX}988 s"])
     yield "refused 16", brook(dt=2, Q=0).with_flows((1, 10 ** 8 + 1)), [NO_FLOWS]
+    # with bands: a flow between the lowest and the highest may decide, by AD of its band; AD is 1,000 from 60 to 99 mL/s
+    low, middle, high = Band(0, 59, 100, 50, 100), Band(60, 99, 100, 10, 100), Band(100, HIGHEST_FLOW, 100, 50, 100)
+    for top, dx in ((60, 33), (59, 100)):
+        yield ("accepted", brook(dt=2, Q=0, M=2).with_flows((1, top), (2, 100)).with_bands([low, middle, high]),
+               [f"{LONGEST_DX}{dx} cm ({dx / 100:g} m)", f"{LONGEST_DT}3 s"])
+    # V of a band: b is dt x ALPHA x A / (2 x 10^9 x AS)
+    yield ("accepted", brook(dt=1, Q=0, D=0, ALPHA=10 ** 7).with_flows((1, 7)).with_bands(
+        [Band(0, 6, 100, 0, 100), Band(7, HIGHEST_FLOW, 100, 50, 1)]), [f"{LONGEST_DX}1,428 cm (14.28 m)", f"{LONGEST_DT}2 s"])
+    yield ("refused 19", brook(dt=1, Q=0).with_flows((1, 7)).with_bands([Band(0, 6, 100, 0, 100)]), [NO_BANDS])
+    yield ("refused 6", brook(dt=1, Q=0, A=0).with_flows((1, 7)).with_bands([low, middle, high]), [NO_BANDS])
+
+
+class Place(NamedTuple):
+    """A segment with one flow at the top, from the documents' words: its reach, flow, the number of its band, and AD."""
+
+    reach: int
+    Q: int
+    band: int                       # 0 where it has none
+    AD: int
+
+
+def places(draft: Draft, top: int, dx: int) -> list[Place]:
+    found, gain = [], 0
+    for at, reach in enumerate(draft.reaches):
+        bands = draft.bands[at] if draft.bands else []
+        for _ in range(reach.segments):
+            Q = top + (2 * gain + reach.qin - reach.qout) * dx // 200_000
+            gain += reach.qin - reach.qout
+            inside = [number for number, band in enumerate(bands, 1) if band.lowest <= Q <= band.highest]
+            AD = bands[inside[0] - 1].A * bands[inside[0] - 1].D if inside else reach.A * reach.D
+            found.append(Place(at + 1, Q, *inside or [0], AD))
+    return found
+
+
+def tops(draft: Draft) -> list[int]:
+    return [draft.header.top_flow, *(row.top_flow for row in draft.flow_rows or ())]
 
 
 def passes_11(draft: Draft, dx: int) -> bool:
     """Tests 10 and 11 once more, from the documents' words, for the top flow and every row's."""
-    own = [reach for reach in draft.reaches for _ in range(reach.segments)]
-    for top in (draft.header.top_flow, *(row.top_flow for row in draft.flow_rows or ())):
-        gain = 0
-        for at, reach in enumerate(own):
-            net = reach.qin - reach.qout
-            Q = top + (2 * gain + net) * dx // 200_000
-            below = own[min(at + 1, len(own) - 1)]
-            if not 0 <= Q <= 100_000_000 or Q * dx > reach.A * reach.D + below.A * below.D:
+    for top in tops(draft):
+        along = places(draft, top, dx)
+        for here, below in zip(along, [*along[1:], along[-1]]):
+            if not 0 <= here.Q <= 100_000_000 or here.Q * dx > here.AD + below.AD:
                 return False
-            gain += net
     return True
 
 
@@ -498,7 +633,7 @@ def longest_checks() -> Iterator[Check]:
             yield Check(f"longest: {first}, nothing", "the longest" in explain.words(sheet), False)
     rng = random.Random("longest")
     rivers = [passes_long_but_not_shorter(), passes_long_but_not_shorter().with_header(top_flow=999)]
-    for draw in [sheets.draw_river] * 12 + [draw_flow_river] * 6:
+    for draw in [draw_river] * 12 + [draw_flow_river] * 6 + [draw_band_river] * 8:
         draft = sheets.good_river(rng, rng.randint(1, 5), 3, draw)
         changes = dict(qin=rng.choice((0, 10, 3_000, 10 ** 7)), qout=rng.choice((0, 20, 3_000, 10 ** 5)),
                        D=rng.choice((0, 1, 900, 10 ** 6)))
@@ -512,7 +647,9 @@ def longest_checks() -> Iterator[Check]:
     yield Check("shorter segments need not pass", [passes_11(rivers[0], dx) for dx in (5_000, 10_000)],
                 [False, True])
     for draft in (brook(dt=1, Q=700, D=40), brook(dt=1, Q=0, D=0, LAMHAT2=3_333_333, ALPHA=1_234_567),
-                  brook(dt=1, Q=100, M=2).with_flows((1, 900), (2, 0))):
+                  brook(dt=1, Q=100, M=2).with_flows((1, 900), (2, 0)),
+                  brook(dt=1, Q=100, M=2, ALPHA=10 ** 6).with_flows((1, 900), (2, 0)).with_bands(
+                      [Band(0, 99, 70, 40, 9), Band(100, HIGHEST_FLOW, 99, 70, 50)])):
         found = model.read_sheet(write(draft))
         passing = [dt for dt in range(1, 3_601) if passes_12(found, dt)]
         yield Check("the longest dt", (explain.longest_step(found), len(passing)), (max(passing), max(passing)))
@@ -520,6 +657,67 @@ def longest_checks() -> Iterator[Check]:
     begin = time.monotonic()
     explain.words(write(biggest))
     yield Check("1,024 segments: within two seconds", time.monotonic() - begin < 2, True)
+
+
+def told_places(words: str) -> dict[tuple[int, int], tuple[int, int, range]]:
+    """What an explanation says of bands: by flow (0 is the top flow) and segment its reach, band and the flows of its run."""
+    found: dict[tuple[int, int], tuple[int, int, range]] = {}
+    lines = iter(words.split("\n"))
+    next(line for line in lines if line.split()[:2] == ["flow", "segments"])
+
+    def ends(text: str) -> range:
+        low, _, high = text.replace(",", "").partition(" to ")
+        return range(int(low), int(high or low) + 1)
+
+    flow = -1
+    for line in lines:
+        if "the longest dx" in line:
+            break
+        name, *rest = re.split(r"   +", line[2:].rstrip())
+        flow = {"": flow, "top flow": 0}[name] if name in ("", "top flow") else int(name.removeprefix("flow row "))
+        if rest[0].startswith("as "):
+            like = 0 if rest[0] == "as top flow" else int(rest[0].removeprefix("as flow row "))
+            found |= {(flow, segment): what for (row, segment), what in found.items() if row == like}
+        else:
+            segments, reach, band, *_, flows = rest
+            found |= {(flow, segment): (int(reach), 0 if band == "none" else int(band), ends(flows)) for segment in ends(segments)}
+    return found
+
+
+def band_checks() -> Iterator[Check]:
+    """The band of every segment with every flow, and cures of 19 that do cure it."""
+    rng = random.Random("bands")
+    lines = segments = 0
+    for _ in range(40):
+        draft = sheets.good_river(rng, rng.randint(1, 50), 3, draw_band_river)
+        if not any(draft.bands):
+            continue
+        words = explain.words(write(draft))
+        wanted = {(flow, segment): place for flow, top in enumerate(tops(draft))
+                  for segment, place in enumerate(places(draft, top, draft.header.dx), 1) if place.band}
+        told = told_places(words)
+        yield Check("a band for each segment", {at: what[:2] for at, what in told.items()},
+                    {at: (place.reach, place.band) for at, place in wanted.items()})
+        yield Check("its flow", all(place.Q in told[at][2] for at, place in wanted.items() if at in told), True)
+        lines, segments = lines + len(words.split("\n")), segments + len(wanted)
+    yield Check("lines for runs of segments", (segments > 1_200, lines < segments), (True, True))
+    cured = 0
+    while cured < 150:
+        lows = sorted(rng.sample(range(1, 40), rng.randint(1, 5)))
+        bands = sheets.in_any_order(rng, sheets.covering(lows, lambda: (1, 1, 1)))
+        at, name = rng.randrange(len(bands)), rng.choice(("lowest", "highest"))
+        wrong = min(HIGHEST_FLOW, max(0, getattr(bands[at], name) + rng.randint(-4, 4)))
+        spoiled = [*bands[:at], bands[at]._replace(**{name: wrong}), *bands[at + 1:]]
+        draft = plain_flows().with_bands([], spoiled)
+        faults = explain.faults(write(draft))
+        if len(faults) != 1 or faults[0].number != 19 or faults[0].field:
+            continue
+        for verb, number, flow in re.findall(r"(end|begin) band (\d+) at ([\d,]+)", faults[0].remedy):
+            changes = {{"end": "highest", "begin": "lowest"}[verb]: int(flow.replace(",", ""))}
+            mended = [band._replace(**changes) if each == int(number) else band for each, band in enumerate(spoiled, 1)]
+            refusal = model.answer(write(draft.with_table(1, mended)))
+            yield Check(f"{verb} band {number} at {flow}: {spoiled}", refusal is None or refusal.number != 19, True)
+            cured += 1
 
 
 def explain_checks() -> Iterator[Check]:
@@ -530,7 +728,10 @@ def explain_checks() -> Iterator[Check]:
         yield Check("number and place", [(fault.number, fault.place) for fault in found[:1]],
                     [(refusal.number, refusal.place)])
         yield Check("a fact and a remedy", all(fault.fact and fault.remedy for fault in found), True)
-    yield Check("every refusal", seen, {*range(1, 13), 16})
+    yield Check("every refusal", seen, {*range(1, 13), 16, 19})
+    far = plain_bands().with_table(1, [Band(HIGHEST_FLOW + 1, 5, 1, 1, 1), Band(3, 4, 1, 1, 0)])
+    yield Check("limits that are no flows leave none out", [fault.fact for fault in explain.faults(write(far))],
+                ["lowest flow of band 1 of reach 2 is 100,000,001 mL/s", "storage area AS of band 2 of reach 2 is 0 cm2"])
     for sheet, first, wanted in told_of_sheets():
         words = explain.words(sheet)
         missing = [line for line in wanted if line not in words]
@@ -551,11 +752,21 @@ def remedy_checks() -> Iterator[Check]:
                  "or a dispersion D of at least 61 cm2/s in reach 1 would do here"])
     yield Check("11: that dispersion moves it on", model.answer(write(two.with_reach(0, D=61))).place,
                 ("segment", 2))
+    split = [Band(102, HIGHEST_FLOW, 100, 39, 100), Band(0, 101, 100, 60, 100)]
+    parted = Draft(Header(1, 100, 1, 1, 99), [BROOK_REACH._replace(segments=2, qin=2_000)]).with_flows((1, 99)).with_bands(split)
+    yield Check("11: between bands", [fault.remedy for fault in explain.faults(write(parted))],
+                ["the segments are too long for the dispersion: segments of at most 99 cm "
+                 "or a dispersion D of at least 61 cm2/s in band 2 of reach 1 would do here"])
+    more = parted.with_table(0, [split[0], split[1]._replace(D=61)])
+    yield Check("11: that dispersion moves it on, too", model.answer(write(more)).place, ("segment", 2))
+    steep = parted.with_header(dx=200).with_table(0, [Band(101, HIGHEST_FLOW, 100, 100, 100), Band(0, 100, 100, 50, 100)])
+    yield Check("11: no length that leads into another band", [fault.remedy for fault in explain.faults(write(steep))],
+                ["the segments are too long for the dispersion: a dispersion D of at least 101 cm2/s in band 1 of reach 1 would do here"])
     yield Check("10: the flow row advised", [number(sheets.falling(114, 114, flow)) for flow in (113, 114)], [10, 0])
     rng = random.Random("remedies")
     tried = 0
     while tried < 25:
-        draft = sheets.good_river(rng, rng.randint(1, 8), 3, draw_flow_river if tried % 2 else sheets.draw_river)
+        draft = sheets.good_river(rng, rng.randint(1, 8), 3, (draw_river, draw_flow_river, draw_band_river)[tried % 3])
         longest = explain.longest_step(model.read_sheet(write(draft)))
         if longest < 3_600:
             tried += 1
@@ -797,9 +1008,11 @@ def stored(name: str) -> str:
 
 
 def shortened(draft: Draft, steps: int, interval: int) -> bytes:
-    """The sheet with fewer steps; rows that start later fall away."""
+    """The sheet with fewer steps; rows that start later fall away, but for one that changes nothing where there are bands."""
     rows = [row for row in draft.rows if row.start <= steps]
     flow_rows = [row for row in draft.flow_rows or () if row.start <= steps] or None
+    if draft.bands is not None and flow_rows is None:
+        flow_rows = [FlowRow(1, draft.header.top_flow)]
     return write(replace(draft, rows=rows, flow_rows=flow_rows).with_header(M=steps, interval=interval))
 
 
@@ -828,6 +1041,8 @@ def example_checks() -> Iterator[Check]:
         C, Z, sediment = float_river.farthest(short, model.listing(short).decode("ascii"))
         yield Check(f"{name}: near the float river", [C.distance < 6, Z.distance < 6, sediment.distance < 6 * 70],
                     [True] * 3)
+    sheet = (EXAMPLES / "weir.otr").read_bytes()
+    yield listing_check("weir: the model's listing", stored("weir").encode("ascii"), model.listing(sheet))
     refusal = model.answer(write(uvas.strontium(dt=2)))
     yield Check("strontium with 2 s", (refusal.number, refusal.place), (12, ("segment", 106)))
     chloride = model.read_sheet(write(uvas.chloride()))
@@ -860,6 +1075,46 @@ def program_checks(path: str, full: bool) -> Iterator[Check]:
         yield listing_check(f"{name}: its stored listing, {steps} steps", found, wanted)
     if full:
         yield from steady_checks(path)
+        yield from weir_checks(path)
+
+
+def weir_checks(path: str) -> Iterator[Check]:
+    """What docs/WEIR.md says of the intake, with bands and in one area, and of a release just before the flow changes."""
+    document = one_line((ROOT / "docs" / "WEIR.md").read_text(encoding="utf-8"))
+    text = (EXAMPLES / "weir.txt").read_text(encoding="utf-8")
+    release = "2         0.5   152\n3         0.75  2\n4         5.25  22\n5         5.5   2\n"
+    low = without = text.split("\n# Width grows")[0]         # the text without its bands
+    one_area = sheet_text.make(without)
+    yield Check("one area: its mark", (one_area.sheet[:4], one_area.mistakes), (model.FLOW_MARK, []))
+    listings = [stored("weir"), printed(path, one_area.sheet).decode()]
+    intakes = [curves.read_listing(listing)[-1] for listing in listings]
+    limit = curves.limit_figure("8 mg/L")
+    opened = weir.OPENING[0][0] * weir.MINUTE
+    for hour, early in (("0.5", True), ("5.25", False)):
+        told = []
+        for intake in intakes:
+            begin, until = next(spell for spell in curves.spells(intake, "channel", limit) if (spell.begin < opened) == early)
+            highest = max(figure for step, figure in zip(intake.steps, intake.figures["channel"]) if (step < opened) == early)
+            told += [f"{begin / 360:.2f} to {until / 360:.2f} h", f"{highest / 10 ** 6:.5g} mg/L"]
+        yield Check(f"docs/WEIR.md: the release at {hour} h", f"| release at {hour} h | {' | '.join(told)} |" in document, True)
+    first = intakes[0]
+    salt = {step: figure - weir.BACKGROUND for step, figure in zip(first.steps, first.figures["channel"]) if step < opened}
+    passed = sum(figure for step, figure in salt.items() if step <= 2.15 * 360) / sum(salt.values())
+    yield Check("four fifths have passed", (round(passed, 1), "four fifths of the salt" in document), (0.8, True))
+    for row, figures in (("1      400     7    0.88  0.11", "2.3 0.44 0.07"), ("2      500     5.2  1.21  0.24", "2.1 0.61 0.16"),
+                         ("3      300     4    1.65  0.56", "1.9 0.83 0.37")):
+        low = low.replace(row, f"{' '.join(row.split()[:2])} {figures}")
+    yield Check("low water's area", [mistake.number for mistake in sheet_text.make(low).mistakes], [11])
+    A = weir.BANDS[1][1][0]                                 # of the upper reach; Q x dx is at most 2 AD
+    v, D = weir.HIGH * 1_000 / A / 100, weir.HIGH * 1_000 * 1_000 / (2 * A) / 10_000
+    yield Check("and what it comes to", f"run at {v:.1f} m/s, and test 11 would want a dispersion of some {D:.0f} m²/s" in document, True)
+    late = sheet_text.make(text.replace(release, "2 4.25 152\n3 4.5 2\n")).sheet
+    intake = curves.read_listing(printed(path, late).decode())[-1]
+    Q = [places(weir.brook(), top, 1_000)[-1].Q for top in tops(weir.brook())]
+    grams = sum(Q[model.flow_in_force(late, step)] * (figure - weir.BACKGROUND) * weir.brook().header.interval * 10 / 10 ** 12
+                for step, figure in zip(intake.steps, intake.figures["channel"]))
+    times = f"{grams / (weir.RELEASE / 1_000 * 900):.1f} times its salt would pass"
+    yield Check(f"docs/WEIR.md: {times}", times in document, True)
 
 
 def steady_checks(path: str) -> Iterator[Check]:
@@ -895,11 +1150,11 @@ def run_shown(line: str, example: str, folder: Path, program: bool) -> str:
 
 
 def document_checks(full: bool) -> Iterator[Check]:
-    """The commands of two documents draw their pictures; README.md and docs/SNOWMELT.md show what theirs print."""
-    found = [each for name in ("UVAS", "SNOWMELT")
+    """The commands of three documents draw their pictures; they and README.md show what theirs print."""
+    found = [each for name in ("UVAS", "SNOWMELT", "WEIR")
              for each in PICTURE.findall((ROOT / "docs" / f"{name}.md").read_text(encoding="utf-8"))]
     yield Check("pictures with a command", [picture for picture, _, _ in found],
-                [f"examples/{name}.svg" for name in ("uvas-chloride", "uvas-strontium", "snowmelt")])
+                [f"examples/{name}.svg" for name in ("uvas-chloride", "uvas-strontium", "snowmelt", "weir")])
     text, shown_blocks = (ROOT / "README.md").read_text(encoding="utf-8"), blocks("README.md")
     proving = "python3 tools/prove.py river && "
     with tempfile.TemporaryDirectory() as name:
@@ -913,10 +1168,14 @@ def document_checks(full: bool) -> Iterator[Check]:
             drawn = folder / line.split()[-1]
             yield Check(f"{picture}: drawn by its command",
                         drawn.exists() and drawn.read_bytes() == (ROOT / picture).read_bytes(), True)
-        yield Check("docs/SNOWMELT.md: what it shows",
-                    paragraphs(shown_there["snowmelt"])[0] in blocks("docs/SNOWMELT.md"), True)
+        for example in ("snowmelt", "weir"):
+            document = f"docs/{example.upper()}.md"
+            yield Check(f"{document}: what it shows", paragraphs(shown_there[example])[0] in blocks(document), True)
         line = next(block[0] for block in shown_blocks if block[0].startswith(proving)).removeprefix(proving)
         table, *plots, _ = paragraphs(run_shown(line, "uvas-chloride", folder, False))
+    told = explain.words((EXAMPLES / "weir.otr").read_bytes()).split("\n")
+    begin = next(at for at, line in enumerate(told) if line.split()[:2] == ["flow", "segments"])
+    yield Check("docs/TOOLS.md: which bands", [line[2:] for line in told[begin:begin + 6]] in blocks("docs/TOOLS.md"), True)
     plot = next(plot for plot in plots if plot[0].startswith("433 m"))
     limit = re.search(r'--limit "([^"]*)"', text)[1]
     limited = shown(stored("uvas-chloride"), sheet=EXAMPLES / "uvas-chloride.otr", clock=8.25,
@@ -1115,7 +1374,8 @@ def main() -> int:
     asked = arguments()
     groups = [("units", unit_checks()), ("round trips", round_trip_checks()), ("commands", command_checks()),
               ("files", file_checks()), ("mistakes", mistake_checks()), ("any text", any_text_checks()),
-              ("explanations", explain_checks()), ("remedies", remedy_checks()), ("longest", longest_checks()),
+              ("explanations", explain_checks()), ("bands", band_checks()), ("remedies", remedy_checks()),
+              ("longest", longest_checks()),
               ("tables", table_checks()), ("pictures", picture_checks()), ("examples", example_checks()),
               ("documents", document_checks(asked.full)), ("proofs", proof_checks())]
     try:

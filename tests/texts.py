@@ -38,6 +38,19 @@ unit      s     L/s
 2         40    8
 """
 
+BANDS = """\
+band  reach  lowest  highest  A     D     AS
+unit  -      L/s     L/s      m2    m2/s  m2
+1     1      10      24.999   0.9   0.6   0.18
+2     1      25      max      1.4   0.7   0.25
+3     1      0       9.999    0.6   0.4   0.09
+band  reach  from    A     D     AS
+unit  -      m3/s    m2    m2/s  m2
+1     2      0.0201  1.1   0.55  0.21
+2     2      0       0.8   0.65  0.17
+"""
+BAND_TEXT = FLOW_TEXT + BANDS
+
 
 def edited(*edits: tuple[int, str], text: str = TEXT) -> str:
     """The text with lines changed; a line may become several, or none."""
@@ -67,6 +80,24 @@ FEET = edited((2, "segment length 25 ft"), (5, "flow at top ~0.7 ft3/s"), (6, "r
 
 FLOWS_BY_STEP = ((24, "flow step top"), (25, "unit - m3/s"), (26, "1 1 0.025"), (27, "2 4 0.008"))
 OTHER_FLOWS = edited(*FLOWS_BY_STEP, text=FLOW_TEXT)
+FIRST_BY_FROM = ((28, "band reach from A D AS"), (29, "unit - L/s m2 m2/s m2"), (30, "1 1 10 0.9 0.6 0.18"),
+                 (31, "2 1 25 1.4 0.7 0.25"), (32, "3 1 0 0.6 0.4 0.09"))
+SECOND_BY_LIMITS = ((33, "band reach lowest highest A D AS"), (34, "unit - mL/s mL/s cm2 cm2/s cm2"),
+                    (35, "1 2 20100 MAX 11000 5500 2100"), (36, "2 2 0 20099 8000 6500 1700"))
+OTHER_BANDS = {
+    "from": edited(*FIRST_BY_FROM, text=BAND_TEXT),
+    "lowest and highest": edited(*SECOND_BY_LIMITS, text=BAND_TEXT),
+    "100,000,000": edited((31, "2 1 25 100000 1.4 0.7 0.25"), text=BAND_TEXT),
+    "rows in another order": edited((30, "3 1 0 9.999 0.6 0.4 0.09"), (32, "1 1 10 24.999 0.9 0.6 0.18"), text=BAND_TEXT),
+    "two forms in a reach": edited((30, "1 1 10 24.999 0.9 0.6 0.18\n3 1 0 9.999 0.6 0.4 0.09"), (31, ""), (32, ""),
+                                   (36, "2 2 0 0.8 0.65 0.17\n2 1 0.025 1.4 0.7 0.25"), text=BAND_TEXT),
+    "columns in two tables": edited((28, "band reach lowest A D AS"), (29, "unit - L/s m2 m2/s m2"), (30, "1 1 10 0.9 0.6 0.18"),
+                                    (31, "2 1 25 1.4 0.7 0.25"), (32, "3 1 0 0.6 0.4 0.09\nband highest reach\nunit m3/s -\n"
+                                                                      "1 0.024999 1\n2 max 1\n3 0.009999 1"), text=BAND_TEXT),
+}
+ALL_BANDS = TEXT + "band reach from A D AS\nunit - L/s m2 m2/s m2\n1 all 0 0.9 0.6 0.18\n2 all 20.1 1.4 0.7 0.25\n"
+NO_BANDS = TEXT + "band reach from A D AS\nunit - L/s m2 m2/s m2\n"
+FEET_BANDS = TEXT + "band reach from A D AS\nunit - ft3/s m2 m2/s m2\n1 1 0 0.9 0.6 0.18\n2 1 ~0.71 1.4 0.7 0.25\n"
 
 
 class Mistaken(NamedTuple):
@@ -84,6 +115,10 @@ def mistaken(line: int, number: int, words: str, *edits: tuple[int, str]) -> Mis
 
 def with_flows(line: int, number: int, words: str, *edits: tuple[int, str]) -> Mistaken:
     return Mistaken(edited(*edits, text=FLOW_TEXT), line, number, words)
+
+
+def with_bands(line: int, number: int, words: str, *edits: tuple[int, str]) -> Mistaken:
+    return Mistaken(edited(*edits, text=BAND_TEXT), line, number, words)
 
 
 MISTAKES = (
@@ -234,14 +269,102 @@ MISTAKES = (
     with_flows(26, 11, "with flow row 1, from step 1 (0.00277778 h) on, in segment 1 (reach 1) Q × dx, "
                "101,010 × 1,000", (26, "1 10 101")),
     with_flows(9, 11, "in segment 4 (reach 2) Q × dx, 20,070 × 1,000", (9, "2 3 0 1 0.2 1e-3")),
+    # bands
+    with_bands(28, 0, "after 'band' come some of reach, from, lowest, highest, A, D, AS", (28, "band")),
+    with_bands(28, 0, "no column 'width'; known are reach, from,", (28, "band reach lowest highest width D AS")),
+    with_bands(28, 0, "the band table has no column 'reach': each band has its reach's number there, or 'all'",
+               (28, "band lowest highest A D AS")),
+    with_bands(29, 0, "column highest: 'm2' is not a unit of flow", (29, "unit - L/s m2 m2 m2/s m2")),
+    with_bands(30, 0, "'all' is for reaches; a band row has its number", (30, "all 1 10 24.999 0.9 0.6 0.18")),
+    with_bands(30, 0, "'upper' is not a reach: a band has its reach's number there, or 'all'",
+               (30, "1 upper 10 24.999 0.9 0.6 0.18")),
+    with_bands(35, 0, "reach 3 has bands here and no row in a reach table: the text has reaches 1 to 2",
+               (35, "1 3 0.0201 1.1 0.55 0.21"), (36, "2 3 0 0.8 0.65 0.17")),
+    with_bands(36, 0, "reach 0 has bands here and no row in a reach table", (36, "1 0 0 0.8 0.65 0.17")),
+    with_bands(32, 0, "band 4 of reach 1 comes where band 3 of reach 1 is missing: rows are numbered 1, 2, 3",
+               (32, "4 1 0 9.999 0.6 0.4 0.09")),
+    with_bands(31, 0, "lowest of band 1 of reach 1 is given a second time; line 30 has it already",
+               (31, "1 1 25 max 1.4 0.7 0.25")),
+    with_bands(30, 0, "reach 1 has bands of its own here; line 35 has bands for every reach",
+               (35, "1 all 0.0201 1.1 0.55 0.21"), (36, "2 all 0 0.8 0.65 0.17")),
+    with_bands(35, 0, "from of band 1 of every reach: 'x' is not a number", (35, "1 all x 1.1 0.55 0.21")),
+    with_bands(30, 0, "band 1 of reach 1 has no highest: no field may be missing; 'from' may stand for lowest and highest",
+               (28, "band reach lowest A D AS"), (29, "unit - L/s m2 m2/s m2"), (30, "1 1 10 0.9 0.6 0.18"),
+               (31, "2 1 25 1.4 0.7 0.25"), (32, "3 1 0 0.6 0.4 0.09")),
+    with_bands(35, 0, "band 1 of reach 2 has no D, AS: no field may be missing", (33, "band reach from A"), (34, "unit - m3/s m2"),
+               (35, "1 2 0.0201 1.1"), (36, "2 2 0 0.8")),
+    with_bands(35, 0, "band 1 of reach 2 has 'from' and a lowest or highest flow too: 'from' stands alone",
+               (33, "band reach from highest A D AS"), (34, "unit - m3/s m3/s m2 m2/s m2"),
+               (35, "1 2 0.0201 max 1.1 0.55 0.21"), (36, "2 2 0 0.0200 0.8 0.65 0.17")),
+    with_bands(31, 0, "lowest of band 2 of reach 1: 'max' is not a number", (31, "2 1 max max 1.4 0.7 0.25")),
+    with_bands(32, 0, "highest of band 3 of reach 1 is 9.9995 L/s, that is 9999.5 mL/s: not a whole number. "
+               "Write ~9.9995 L/s to take the nearest, 10,000 mL/s (10 L/s)", (32, "3 1 0 9.9995 0.6 0.4 0.09")),
+    with_bands(35, 0, "from of band 1 of reach 2 is 5000 m3/s: a field holds at most 4,294,967,295 mL/s (about 4294.96729 m3/s); "
+               "document 01 allows 0 to 100,000,000 mL/s (0 to 100 m3/s)", (35, "1 2 5000 1.1 0.55 0.21")),
+    with_bands(62, 3, "the count of bands of reach 1 is 33; document 02 allows 0 to 32 bands",
+               (30, numbered(33, "1 # # 0.9 0.6 0.18")), (31, ""), (32, "")),
+    with_bands(67, 3, "the count of bands of reach 2 is 33; document 02 allows 0 to 32 bands",
+               (35, numbered(33, "2 # 1.1 0.55 0.21")), (36, "")),
+    with_bands(31, 19, "lowest flow of band 2 of reach 1 is 200,000,000 mL/s (200000 L/s); "
+               "document 01 allows 0 to 100,000,000 mL/s (0 to 100000 L/s) (refused 19)", (31, "2 1 2e5 max 1.4 0.7 0.25")),
+    with_bands(35, 19, "lowest flow of band 1 of reach 2 is 101,000,000 mL/s (101 m3/s)", (35, "1 2 101 1.1 0.55 0.21")),
+    with_bands(31, 19, "highest flow of band 2 of reach 1 is 100,001,000 mL/s (100001 L/s); document 01 allows 0 to",
+               (31, "2 1 25 100001 1.4 0.7 0.25")),
+    with_bands(31, 19, "channel area A of band 2 of reach 1 is 0 cm2 (0 m2); document 01 allows 1 to 1,000,000 cm2",
+               (31, "2 1 25 max 0 0.7 0.25")),
+    with_bands(36, 19, "dispersion D of band 2 of reach 2 is 1,010,000 cm2/s (101 m2/s); document 01 allows 0 to 1,000,000 cm2/s",
+               (36, "2 2 0 0.8 101 0.17")),
+    with_bands(36, 19, "storage area AS of band 2 of reach 2 is 0 cm2", (36, "2 2 0 0.8 0.65 0")),
+    with_bands(30, 19, "the highest flow of band 1 of reach 1, 10,000 mL/s (10 L/s), is below its lowest, 24,999 mL/s (24.999 L/s); "
+               "the lowest flow of a band is at most the highest: exchange them", (30, "1 1 24.999 10 0.9 0.6 0.18")),
+    with_bands(31, 19, "bands 1 and 2 of reach 1 both hold 25,000 mL/s (25 L/s): they go from 10,000 to 25,000 mL/s (10 to 25 L/s) "
+               "and 25,000 to 100,000,000 mL/s (25 to 100000 L/s); no flow is in two bands, and both limits belong to a band: "
+               "end band 1 at 24,999 mL/s (24.999 L/s) or begin band 2 at 25,001 mL/s (25.001 L/s) or give 'from' alone in the text",
+               (30, "1 1 10 25 0.9 0.6 0.18")),
+    with_bands(32, 19, "bands 1 and 3 of reach 1 both hold 10,000 to 12,000 mL/s (10 to 12 L/s): they go from",
+               (32, "3 1 0 12 0.6 0.4 0.09")),
+    with_bands(32, 19, ": end band 3 at 9,999 mL/s (9.999 L/s) or begin band 1 at 12,001 mL/s (12.001 L/s) or give",
+               (32, "3 1 0 12 0.6 0.4 0.09")),
+    with_bands(31, 19, "bands 1 and 2 of reach 1 both hold 25,000 to 100,000,000 mL/s (25 to 100000 L/s)",
+               (30, "1 1 10 max 0.9 0.6 0.18")),
+    with_bands(31, 19, "to a band: end band 1 at 24,999 mL/s (24.999 L/s) or give", (30, "1 1 10 max 0.9 0.6 0.18")),
+    with_bands(32, 19, "bands 2 and 3 of reach 1 both hold 0 to 9,999 mL/s (0 to 9.999 L/s)", (31, "2 1 0 max 1.4 0.7 0.25")),
+    with_bands(32, 19, "to a band: begin band 2 at 10,000 mL/s (10 L/s) or give", (31, "2 1 0 max 1.4 0.7 0.25")),
+    with_bands(32, 19, "bands 1, 2 and 3 of reach 1 all hold 0 to 30,000 mL/s (0 to 30 L/s): they go from 0 to 30,000 mL/s "
+               "(0 to 30 L/s), 0 to 100,000,000 mL/s (0 to 100000 L/s) and 0 to 30,000 mL/s (0 to 30 L/s); no flow is in two bands, "
+               "and both limits belong to a band: take out all but one of them, or move their limits (refused 19)",
+               (30, "1 1 0 30 0.9 0.6 0.18"), (31, "2 1 0 max 1.4 0.7 0.25"), (32, "3 1 0 30 0.6 0.4 0.09")),
+    with_bands(32, 19, "no band of reach 1 holds 0 to 999 mL/s (0 to 0.999 L/s); bands hold every flow from 0 to 100,000,000 mL/s: "
+               "begin band 3 at 0 mL/s (0 L/s) (refused 19)", (32, "3 1 1 9.999 0.6 0.4 0.09")),
+    with_bands(30, 19, "no band of reach 1 holds 24,000 to 24,999 mL/s (24 to 24.999 L/s); bands hold every flow from 0 to "
+               "100,000,000 mL/s: end band 1 at 24,999 mL/s (24.999 L/s) or begin band 2 at 24,000 mL/s (24 L/s) or give 'from' alone",
+               (30, "1 1 10 23.999 0.9 0.6 0.18")),
+    with_bands(32, 19, "no band of reach 1 holds 9,999 mL/s (9.999 L/s); bands", (32, "3 1 0 9.998 0.6 0.4 0.09")),
+    with_bands(31, 19, "no band of reach 1 holds 30,001 to 100,000,000 mL/s (30.001 to 100000 L/s); bands hold every flow from 0 to "
+               "100,000,000 mL/s: end band 2 at 100,000,000 mL/s (100000 L/s) or write 'max' in the text", (31, "2 1 25 30 1.4 0.7 0.25")),
+    with_bands(36, 19, "no band of reach 2 holds 0 to 99 mL/s (0 to 0.000099 m3/s); bands hold every flow from 0 to 100,000,000 mL/s: "
+               "begin band 2 at 0 mL/s (0 m3/s) (refused 19)", (36, "2 2 0.0001 0.8 0.65 0.17")),
+    with_bands(36, 19, "bands 1 and 2 of reach 2 both hold 0 to 100,000,000 mL/s (0 to 100 m3/s): they go from 0 to 100,000,000 mL/s "
+               "(0 to 100 m3/s) and 0 to 100,000,000 mL/s (0 to 100 m3/s); no flow is in two bands, and both limits belong to a band: "
+               "take out all but one of them, or move their limits", (35, "1 2 0 1.1 0.55 0.21")),
+    Mistaken(edited((26, "1 all 1 0.9 0.6 0.18"), text=ALL_BANDS), 26, 19, "no band of reach 1 holds 0 to 999 mL/s (0 to 0.999 L/s)"),
+    with_bands(30, 11, "in segment 1 (reach 1, band 1) Q × dx, 20,010 × 1,000 = 20,010,000 cm4/s, exceeds AD own + AD below, "
+               "9,000,000 + 9,000,000 = 18,000,000 cm4/s; the segments are too long for the dispersion: segments of at most 899 cm "
+               "(8.99 m) or a dispersion D of at least 1,112 cm2/s (0.1112 m2/s) in band 1 of reach 1 would do here",
+               (30, "1 1 10 24.999 0.9 0.1 0.18")),
+    with_bands(26, 11, "with flow row 1, from step 1 (0.00277778 h) on, in segment 1 (reach 1, band 2) Q × dx, 25,010 × 1,000",
+               (31, "2 1 25 max 1.4 0.01 0.25")),
+    with_bands(30, 12, "in segment 1 (reach 1, band 1) V is 4.516 of one whole", (30, "1 1 10 24.999 0.9 0.6 0.0010")),
+    with_bands(27, 12, "with flow row 2, from step 4 (0.0111111 h) on, in segment 1 (reach 1, band 3) V is",
+               (32, "3 1 0 9.999 0.6 0.4 0.0001")),
 )
 
 
 def any_text(rng: random.Random) -> str:
     """A text with some words changed, lost, added or moved."""
-    lines = [line.split() for line in rng.choice((TEXT, FLOW_TEXT)).splitlines()]
+    lines = [line.split() for line in rng.choice((TEXT, FLOW_TEXT, BAND_TEXT, TEXT + BANDS, ALL_BANDS)).splitlines()]
     words = [word for line in lines for word in line]
-    words += ["~3", "1e9", "-", "#", "all", "0", "²", "٣", "1.2.3", "unit", "reach", "flow", "9" * 60]
+    words += ["~3", "1e9", "-", "#", "all", "0", "²", "٣", "1.2.3", "unit", "reach", "flow", "band", "max", "9" * 60]
     for _ in range(rng.randint(1, 4)):
         line, kind = rng.choice(lines), rng.randrange(4)
         if kind == 0 and line:

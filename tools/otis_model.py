@@ -1,4 +1,4 @@
-"""The river of document 01, with requests 1 to 3 and 5 of document 02, in plain whole numbers: the one in Python.
+"""The river of document 01, with requests 1 to 3, 5 and 6 of document 02, in plain whole numbers: the one in Python.
 
 The parts stand in document 01's order: the sheet and its tests, flow and
 half-step numbers, the sweep, the calls, the listing; before the listing stand
@@ -16,6 +16,8 @@ from typing import NamedTuple, Optional
 
 MARK = b"OTR1"
 FLOW_MARK = b"OTR2"                 # of a sheet with flow rows
+BAND_MARK = b"OTR3"                 # of a sheet with flow rows and bands
+MARKS = (MARK, FLOW_MARK, BAND_MARK)
 FIELD = 4                           # bytes of a field: unsigned 32-bit, little-endian
 ONE_WHOLE = 2 ** 30                 # S in the equations
 HIGHEST = 1_000_000_000             # a concentration, ng/L
@@ -28,6 +30,7 @@ MOST_REACHES = 64
 MOST_ROWS = 256
 MOST_GAUGES = 32
 MOST_FLOW_ROWS = 64
+MOST_BANDS = 32                     # of a reach
 MOST_RIVERS = 8                     # that share lists
 BLOCK = 16                          # segments that have one highest channel figure; a river's last block may have fewer
 LATERAL = 100_000                   # cm in a km: lateral flow is per km, dx in cm
@@ -98,9 +101,23 @@ class FlowRow(NamedTuple):
     top_flow: int
 
 
+class Band(NamedTuple):
+    """A, D and AS of a reach where a segment's flow is from the lowest to the highest."""
+
+    lowest: int
+    highest: int
+    A: int
+    D: int
+    AS: int
+
+    def holds(self, Q: int) -> bool:
+        return self.lowest <= Q <= self.highest
+
+
 LONGEST_SHEET = len(MARK) + FIELD * (len(Header._fields) + 1 + MOST_REACHES * len(Reach._fields)
                                      + 1 + MOST_ROWS * len(Row._fields) + 1 + MOST_GAUGES
-                                     + 1 + MOST_FLOW_ROWS * len(FlowRow._fields))
+                                     + 1 + MOST_FLOW_ROWS * len(FlowRow._fields)
+                                     + MOST_REACHES * (1 + MOST_BANDS * len(Band._fields)))
 
 
 class Range(NamedTuple):
@@ -136,25 +153,32 @@ REACH_RANGES = {
 }
 
 
+BAND_RANGES = {"lowest": FLOW, "highest": FLOW, **{name: REACH_RANGES[name] for name in ("A", "D", "AS")}}
+
+
 def header_ranges(M: int) -> dict[str, Range]:
     """Header: dt, dx, steps M, print interval (1 to M), flow at the top."""
     return {"dt": Range(1, 3_600), "dx": Range(10, 10_000), "M": Range(1, MOST_STEPS),
             "interval": Range(1, M), "top_flow": FLOW}
 
 
-def in_ranges(figures: Header | Reach, ranges: dict[str, Range]) -> bool:
+def in_ranges(figures: Header | Reach | Band, ranges: dict[str, Range]) -> bool:
     return all(ranges[name].holds(figure) for name, figure in figures._asdict().items())
 
 
 @dataclass
 class Sheet:
-    """What the walk finds; those that begin somewhere do so at the offset of the first, flow rows at 0 in OTR1."""
+    """What the walk finds; those that begin somewhere do so at the offset of the first, flow rows at 0 in OTR1.
+
+    There is a list of bands for each reach, with none in it where the mark has no bands.
+    """
 
     header: Header
     reaches: list[Reach]
     rows: list[Row]
     gauges: list[int]
     flow_rows: list[FlowRow]
+    bands: list[list[Band]]
     rows_begin: int
     gauges_begin: int
     flow_rows_begin: int
@@ -184,21 +208,26 @@ class Walk:
     def fields(self, count: int) -> list[int]:
         return [self.field() for _ in range(count)]
 
-    def count(self, most: int) -> int:
+    def count(self, most: int, least: int = 1) -> int:
         """3. A count is outside its range."""
         count = self.field()
-        if not 1 <= count <= most:
+        if not least <= count <= most:
             raise Refusal(3)
         return count
 
 
+def has_bands(sheet: bytes) -> bool:
+    """A sheet marked OTR3 is an OTR2 sheet with a fifth section: for each reach a count, then that many bands."""
+    return sheet[:len(BAND_MARK)] == BAND_MARK
+
+
 def has_flow_rows(sheet: bytes) -> bool:
-    """A sheet marked OTR2 has a fourth section after the gauges."""
-    return sheet[:len(FLOW_MARK)] == FLOW_MARK
+    """A sheet marked OTR2 has a fourth section after the gauges, and OTR3 is an OTR2 sheet."""
+    return sheet[:len(FLOW_MARK)] == FLOW_MARK or has_bands(sheet)
 
 
 def walk(front: Walk) -> Sheet:
-    """Header, then reaches, boundary rows, gauges and in OTR2 flow rows, each after its count."""
+    """Header, then reaches, boundary rows, gauges, from OTR2 on flow rows, in OTR3 each reach's bands, each after its count."""
     header = Header(*front.fields(len(Header._fields)))
     reaches = [Reach(*front.fields(len(Reach._fields))) for _ in range(front.count(MOST_REACHES))]
     row_count = front.count(MOST_ROWS)
@@ -212,7 +241,11 @@ def walk(front: Walk) -> Sheet:
         flow_row_count = front.count(MOST_FLOW_ROWS)
         flow_rows_begin = front.at
         flow_rows = [FlowRow(*front.fields(len(FlowRow._fields))) for _ in range(flow_row_count)]
-    return Sheet(header, reaches, rows, gauges, flow_rows, rows_begin, gauges_begin, flow_rows_begin, front.at)
+    bands: list[list[Band]] = [[] for _ in reaches]
+    if has_bands(front.sheet):
+        bands = [[Band(*front.fields(len(Band._fields))) for _ in range(front.count(MOST_BANDS, least=0))]
+                 for _ in reaches]
+    return Sheet(header, reaches, rows, gauges, flow_rows, bands, rows_begin, gauges_begin, flow_rows_begin, front.at)
 
 
 def row_faults(rows: list[Row], M: int) -> Iterator[bool]:
@@ -236,13 +269,36 @@ def flow_row_faults(flow_rows: list[FlowRow], M: int) -> Iterator[bool]:
         yield not (in_order and 1 <= row.start <= M and FLOW.holds(row.top_flow))
 
 
+def band_fault(band: Band) -> bool:
+    """A band is out of range or reversed."""
+    return not in_ranges(band, BAND_RANGES) or band.lowest > band.highest
+
+
+def stretches(bands: list[Band]) -> list[tuple[Range, list[int]]]:
+    """0 to 100,000,000 cut where a band begins or has ended: each stretch of flows, with the numbers of its bands.
+
+    A stretch lies in a band whole or not at all.
+    """
+    ends = {cut for band in bands for cut in (band.lowest, band.highest + 1) if FLOW.holds(cut)}
+    cuts = sorted(ends | {FLOW.low, FLOW.high + 1})
+    return [(Range(low, end - 1), [number for number, band in enumerate(bands, 1) if band.holds(low)])
+            for low, end in zip(cuts, cuts[1:])]
+
+
+def bands_fault(bands: list[Band]) -> bool:
+    """A band out of range or reversed, two with a common flow, or a flow that has none; a count of 0 is no fault."""
+    if any(band_fault(band) for band in bands):
+        return True
+    return bool(bands) and any(len(numbers) != 1 for _, numbers in stretches(bands))
+
+
 def segment_count(reaches: list[Reach]) -> int:
     return sum(reach.segments for reach in reaches)
 
 
 def read_sheet(sheet: bytes) -> Sheet:
-    """Tests 1 to 9 and then 16, each over the whole river before the next."""
-    if sheet[:len(MARK)] not in (MARK, FLOW_MARK):                          # 1
+    """Tests 1 to 9, then 16 and 19, each over the whole river before the next."""
+    if sheet[:len(MARK)] not in MARKS:                                      # 1
         raise Refusal(1)
     found = walk(Walk(sheet))                                               # 2 and 3
     if len(sheet) > found.end:                                              # 4
@@ -256,6 +312,7 @@ def read_sheet(sheet: bytes) -> Sheet:
     refuse_first(8, "row", row_faults(found.rows, found.header.M))
     refuse_first(9, "row", gauge_faults(found.gauges, segments))
     refuse_first(16, "row", flow_row_faults(found.flow_rows, found.header.M))
+    refuse_first(19, "reach", (bands_fault(bands) for bands in found.bands))
     return found
 
 
@@ -274,7 +331,7 @@ def gauge_count_at(sheet: bytes) -> int:
 
 
 def flow_row_count_at(sheet: bytes) -> int:
-    """Where the count of flow rows stands in OTR2."""
+    """Where the count of flow rows stands, from OTR2 on."""
     return section_end(sheet, gauge_count_at(sheet), 1)
 
 
@@ -304,7 +361,7 @@ def parts(numerator: int, denominator: int) -> int:
 
 
 def reach_of_segments(reaches: list[Reach]) -> list[Reach]:
-    """The reach of each segment, from the top."""
+    """The reach of each segment, from the top; A, D and AS as the reach's own fields have them."""
     return [reach for reach in reaches for _ in range(reach.segments)]
 
 
@@ -328,8 +385,22 @@ def flows(header: Header, own: list[Reach]) -> list[int]:
     return [flow(header, gain) for gain in gains(own)]
 
 
+def reach_at(reach: Reach, bands: list[Band], Q: int) -> Reach:
+    """The reach as a segment with this flow has it: A, D and AS of the band that holds the flow, its own without bands."""
+    if not bands:
+        return reach
+    band, = (band for band in bands if band.holds(Q))
+    return reach._replace(A=band.A, D=band.D, AS=band.AS)
+
+
+def reaches_at(found: Sheet, Q: list[int]) -> list[Reach]:
+    """The reach of each segment as it is at the segment's own flow; the flows are in range, and 19 has passed."""
+    tables = [(reach, bands) for reach, bands in zip(found.reaches, found.bands) for _ in range(reach.segments)]
+    return [reach_at(reach, bands, flow) for (reach, bands), flow in zip(tables, Q)]
+
+
 def dispersion_around(own: list[Reach]) -> list[tuple[int, int, int]]:
-    """AD above, own and below of each segment; above the first and below the last, its own."""
+    """AD above, own and below of each segment, at one flow; above the first and below the last, its own."""
     AD = [reach.AD for reach in own]
     return list(zip([AD[0]] + AD[:-1], AD, AD[1:] + [AD[-1]]))
 
@@ -380,9 +451,9 @@ def rate_number(dt: int, rate: int) -> int:
     return parts(dt * rate, 2 * RATE_UNIT)
 
 
-@lru_cache(MOST_SEGMENTS)
+@lru_cache(MOST_REACHES * MOST_BANDS)
 def reach_numbers(dt: int, reach: Reach) -> dict[str, int]:
-    """The numbers that do not depend on the flow, by the document's fractions."""
+    """The numbers that depend on the flow by the band alone, by the document's fractions."""
     return dict(
         l=parts(dt * reach.qin, 2 * LATERAL * reach.A),
         a=rate_number(dt, reach.ALPHA),
@@ -404,16 +475,20 @@ def numbers(header: Header, reach: Reach, Q: int, AD: tuple[int, int, int], last
                    **reach_numbers(dt, reach))
 
 
-def test_flows(dx: int, flows_of: list[list[int]], AD: list[tuple[int, int, int]]) -> None:
-    """Tests 10 and 11, each for the top flow and then for every row's in turn, before the next."""
+def test_flows(flows_of: list[list[int]]) -> None:
+    """10, for the top flow and then for every row's in turn."""
     for Q in flows_of:
         refuse_first(10, "segment", (not FLOW.holds(flow) for flow in Q))
-    for Q in flows_of:
+
+
+def test_dispersion(dx: int, flows_of: list[list[int]], AD_of: list[list[tuple[int, int, int]]]) -> None:
+    """11, for each flow in turn with AD as it is at that flow."""
+    for Q, AD in zip(flows_of, AD_of):
         refuse_first(11, "segment", (flow * dx > here + below for flow, (_, here, below) in zip(Q, AD)))
 
 
 def set_of(header: Header, own: list[Reach], Q: list[int], AD: list[tuple[int, int, int]]) -> list[Numbers]:
-    """One flow's set: the half-step numbers of every segment."""
+    """One flow's set: the half-step numbers of every segment, its reach and AD as they are at that flow."""
     last = len(own) - 1
     return [numbers(header, reach, Q[at], AD[at], at == last) for at, reach in enumerate(own)]
 
@@ -421,10 +496,12 @@ def set_of(header: Header, own: list[Reach], Q: list[int], AD: list[tuple[int, i
 def rivers_of(found: Sheet) -> list[list[Segment]]:
     """Tests 10 to 12, each for all flows before the next; then the river's segments with each flow's set."""
     own = reach_of_segments(found.reaches)
-    AD = dispersion_around(own)
     flows_of = [flows(header, own) for header in headers(found)]
-    test_flows(found.header.dx, flows_of, AD)
-    sets = [set_of(found.header, own, Q, AD) for Q in flows_of]
+    test_flows(flows_of)
+    reaches_of = [reaches_at(found, Q) for Q in flows_of]
+    AD_of = [dispersion_around(reaches) for reaches in reaches_of]
+    test_dispersion(found.header.dx, flows_of, AD_of)
+    sets = [set_of(found.header, *course) for course in zip(reaches_of, flows_of, AD_of)]
     for each in sets:
         refuse_first(12, "segment", (part.over_one_whole() for part in each))
     return [[Segment(part, reach.CL, reach.CB, reach.Kd, reach.start) for part, reach in zip(each, own)]
@@ -631,7 +708,7 @@ def test_figures(river: list[Segment], state: Optional[State], concentrations: I
 
 
 def rivers_on(sheet: bytes) -> tuple[Sheet, list[list[Segment]]]:
-    """Tests 1 to 12 and 16: what is on the sheet, and the river with each flow's set."""
+    """Tests 1 to 12, 16 and 19: what is on the sheet, and the river with each flow's set."""
     found = read_sheet(sheet)
     return found, rivers_of(found)
 
@@ -805,7 +882,7 @@ class Pool:
 
     def open(self, number: int, sheet: bytes, row: int, lists: Lists, records: list[Optional[Reach]], shared: int,
              highest: list[int], table: Table, U: int) -> Loaded:
-        """Loads and starts in one call: 1 to 12 and 16, then 17, 18 of the table alone, 13 and 14."""
+        """Loads and starts in one call: 1 to 12, 16 and 19, then 17, 18 of the table alone, 13 and 14."""
         found, rivers = rivers_on(sheet)
         segments = len(rivers[0])
         test_room(table, number, segments)

@@ -1,4 +1,4 @@
-"""The text of a river sheet: lines with units for the header, tables for reaches, rows and gauges.
+"""The text of a river sheet: lines with units for the header, tables for reaches, rows, gauges and bands.
 
 docs/TOOLS.md describes the layout.  Every figure is exact: one that is not whole in
 the sheet's unit is a mistake, unless it is marked with ~, which takes the nearest.
@@ -6,7 +6,7 @@ the sheet's unit is a mistake, unless it is marked with ~, which takes the neare
 from __future__ import annotations
 
 import difflib
-from collections.abc import Iterator
+from collections.abc import Callable, Iterable, Iterator
 from dataclasses import dataclass, field
 from fractions import Fraction
 from itertools import takewhile
@@ -15,12 +15,14 @@ from typing import NamedTuple, NoReturn, Optional
 import explain
 import otis_model as model
 import units
-from otis_model import FIELD, FLOW_MARK, MARK, FlowRow, Header, Reach, Row, Sheet
-from units import HEADER_KINDS, REACH_KINDS, BadText, Quantity, Unit, about, in_unit, liked_unit, with_unit
+from otis_model import BAND_MARK, FIELD, FLOW_MARK, HIGHEST_FLOW, MARK, Band, FlowRow, Header, Reach, Row, Sheet
+from units import BAND_KINDS, HEADER_KINDS, REACH_KINDS, BadText, Quantity, Unit, about, in_unit, liked_unit, with_unit
 
 HIGHEST_FIELD = 2 ** (8 * FIELD) - 1
 NEAREST = "~"                       # before a figure: take the nearest whole one
 ALL = "all"                         # in place of a reach's number
+MAX = "max"                         # in place of a band's highest flow: the highest that a sheet has
+Label = int | str                   # a reach's number, or `all`
 
 
 class Column(NamedTuple):
@@ -48,6 +50,8 @@ TABLES = {
     "gauge": {"segment": Column("segment", units.COUNT), "distance": Column("segment", units.LENGTH, "dx")},
     "flow": {"step": Column("start", units.COUNT), "from": Column("start", units.TIME, "dt"),
              "top": Column("top_flow", units.FLOW)},
+    "band": {"reach": Column("reach", units.COUNT), "from": Column("from", units.FLOW)}
+            | {name: Column(name, kind) for name, kind in BAND_KINDS.items()},
 }
 REPORT_NAMES = {"nseg": "segments", "rchlen": "length", "disp": "D", "area": "A", "area2": "AS", "qlatin": "qin",
                 "qlatout": "qout", "clatin": "CL", "csback": "CB", "ustime": "from", "usbc": "concentration",
@@ -76,14 +80,17 @@ class Cell(NamedTuple):
     unit: Optional[Unit]            # nothing for a bare count
 
 
+Records = dict[int, dict[str, Cell]]    # by their numbers, from 1 on
+
+
 @dataclass
 class Given:
-    """What a text gives, before it is made into whole figures; records count from 1."""
+    """What a text gives, before it is made into whole figures."""
 
     header: dict[str, Cell] = field(default_factory=dict)
-    records: dict[str, dict[int, dict[str, Cell]]] = field(
-        default_factory=lambda: {kind: {} for kind in TABLES})
+    records: dict[str, Records] = field(default_factory=lambda: {kind: {} for kind in TABLES})
     every_reach: dict[str, Cell] = field(default_factory=dict)
+    bands: dict[Label, Records] = field(default_factory=dict)
     tables: set[str] = field(default_factory=set)           # the kinds of tables that there are
     mistakes: list[Mistake] = field(default_factory=list)
     last_line: int = 1
@@ -157,6 +164,8 @@ class Reader:
         for name in sorted(set(fields)):
             if fields.count(name) > 1:
                 self.give_up(f"the {kind} table gives {name} in two columns")
+        if kind == "band" and "reach" not in fields:
+            self.give_up(f"the band table has no column 'reach': each band has its reach's number there, or '{ALL}'")
 
     def column_name(self, kind: str, name: str) -> str:
         """A column's name as the table has it, or nothing when it is not known."""
@@ -187,7 +196,7 @@ class Reader:
         table = self.table
         if table is None:
             raise BadText(f"row {label} belongs to no table: "
-                          "a table begins with 'reach', 'boundary', 'gauge' or 'flow'")
+                          "a table begins with 'reach', 'boundary', 'gauge', 'flow' or 'band'")
         if not table.marks:
             self.give_up(f"the {table.kind} table of line {table.line} wants its units before its rows: "
                          "write 'unit' and then a unit for each column (- for a count)")
@@ -198,9 +207,13 @@ class Reader:
         if label == ALL:
             into, whose = self.given.every_reach, "every reach"
         else:
-            into, whose = self.given.records[table.kind].setdefault(int(label), {}), f"{table.kind} {int(label)}"
+            records, whose = self.given.records[table.kind], f"{table.kind} {int(label)}"
+            if table.kind == "band":
+                reach = reach_label(words[table.names.index("reach")])
+                records, whose = self.given.bands.setdefault(reach, {}), band_name(reach, int(label))
+            into = records.setdefault(int(label), {})
         for name, factor, unit, text in zip(table.names, table.factors, table.marks, words):
-            if name:
+            if name and name != "reach":
                 self.put(into, TABLES[table.kind][name], f"{name} of {whose}", text, unit, factor)
 
     def take_header(self, words: list[str]) -> None:
@@ -235,7 +248,8 @@ class Reader:
             raise BadText(f"{name} is given a second time; line {into[column.field].line} has it already")
         nearest = text.startswith(NEAREST)
         try:
-            value = units.number(text[len(NEAREST):] if nearest else text) * factor
+            value = (Fraction(HIGHEST_FLOW) if (column.field, text.lower()) == ("highest", MAX) else
+                     units.number(text[len(NEAREST):] if nearest else text) * factor)
         except BadText as bad:
             self.mistake(f"{name}: {bad}")
             value = Fraction(0)
@@ -252,6 +266,17 @@ def is_header(words: list[str]) -> bool:
 def is_label(word: str) -> bool:
     """The number of a row, or `all`."""
     return word == ALL or (word.isascii() and word.isdigit())
+
+
+def reach_label(word: str) -> Label:
+    """Whose band it is, by what stands in its column `reach`."""
+    if not is_label(word.lower()):
+        raise BadText(f"'{word}' is not a reach: a band has its reach's number there, or '{ALL}'")
+    return ALL if word.lower() == ALL else int(word)
+
+
+def band_name(label: Label, number: int) -> str:
+    return f"band {number} of every reach" if label == ALL else explain.band_name(label, number)
 
 
 def close(name: str, known: object) -> str:
@@ -348,24 +373,65 @@ class Maker:
             several = "no row numbered 1" if kind in self.given.tables else "no table"
             self.mistake(self.given.last_line, f"the text has {several} for '{kind}'")
         found = []
-        for number, (label, cells) in enumerate(sorted(records.items()), 1):
-            line = min((cell.line for cell in cells.values()), default=self.given.last_line)
-            if label != number:
-                self.mistake(line, f"{kind} {label} comes where {kind} {number} is missing: "
-                             "rows are numbered 1, 2, 3 and so on")
-                return found
+        for number, cells in self.in_order(records, lambda at: f"{kind} {at}"):
             for name in sorted(set(cells) & set(every)):
                 self.mistake(cells[name].line, f"{cells[name].name} is given a second time; "
                              f"line {every[name].line} has it for every reach")
             whole = every | cells
             missing = [name for name in fields if name not in whole]
             if missing:
-                self.mistake(line, f"{kind} {number} has no {', '.join(missing)}: no field may be missing, "
-                             "and 0 is written where there is none")
+                self.mistake(self.first_line(cells.values()), f"{kind} {number} has no {', '.join(missing)}: "
+                             "no field may be missing, and 0 is written where there is none")
                 return found
             found.append({name: self.figure(whole[name]) for name in fields})
             self.cells |= {(kind, number, name): whole[name] for name in fields}
         return found
+
+    def first_line(self, cells: Iterable[Cell]) -> int:
+        """The first line that has one of them."""
+        return min((cell.line for cell in cells), default=self.given.last_line)
+
+    def in_order(self, records: Records, name: Callable[[int], str]) -> Iterator[tuple[int, dict[str, Cell]]]:
+        """The records by their numbers, up to the first number that is missing."""
+        for number, (label, cells) in enumerate(sorted(records.items()), 1):
+            if label != number:
+                self.mistake(self.first_line(cells.values()), f"{name(label)} comes where {name(number)} is missing: "
+                             "rows are numbered 1, 2, 3 and so on")
+                return
+            yield number, cells
+
+    def bands(self) -> list[list[Band]]:
+        """The bands of each reach: its own, or those of every reach; none where the text has none for it."""
+        reaches, given = sorted(self.given.records["reach"]), self.given.bands
+        first_lines = {label: self.first_line(cell for cells in records.values() for cell in cells.values())
+                       for label, records in given.items()}
+        for label, line in first_lines.items():
+            if label != ALL and label not in reaches:
+                self.mistake(line, f"reach {label} has bands here and no row in a reach table: "
+                             f"the text has reaches 1 to {len(reaches)}")
+            elif label != ALL and ALL in given:
+                self.mistake(line, f"reach {label} has bands of its own here; "
+                             f"line {first_lines[ALL]} has bands for every reach")
+        return [self.bands_of(reach, reach if reach in given else ALL) for reach in reaches]
+
+    def bands_of(self, reach: int, label: Label) -> list[Band]:
+        """A reach's bands, of the rows with this label."""
+        table, found = explain.table_of_bands(reach), []
+        for number, cells in self.in_order(self.given.bands.get(label, {}), lambda at: band_name(label, at)):
+            line, name = self.first_line(cells.values()), band_name(label, number)
+            ends = ("from",) if "from" in cells else ("lowest", "highest")
+            missing = [each for each in (*ends, "A", "D", "AS") if each not in cells]
+            if missing:
+                instead = "; 'from' may stand for lowest and highest" if set(missing) & set(ends) else ""
+                self.mistake(line, f"{name} has no {', '.join(missing)}: no field may be missing{instead}")
+            elif len(cells) > len(ends) + 3:
+                self.mistake(line, f"{name} has 'from' and a lowest or highest flow too: 'from' stands alone, "
+                             "and the band ends where the next higher one begins")
+            else:
+                self.cells |= {(table, number, each): cells.get(each) or cells["from"] for each in Band._fields}
+                found.append({each: self.figure(cell) for each, cell in cells.items()})
+        begins = sorted(figures.get("from", figures.get("lowest")) for figures in found)
+        return [band_of(figures, begins) for figures in found]
 
     def make(self) -> Optional[bytes]:
         """The sheet's bytes, or nothing where the text is at fault."""
@@ -378,16 +444,18 @@ class Maker:
         flow_rows = []
         if "flow" in self.given.tables:
             flow_rows = [FlowRow(**figures) for figures in self.records("flow", FlowRow._fields)]
+        bands = None
+        if "band" in self.given.tables:
+            bands = self.bands()
+            flow_rows = flow_rows or [FlowRow(1, header.top_flow)]      # OTR3 wants a row: one that changes nothing
         self.mistakes, self.rounded = sorted(set(self.mistakes)), sorted(set(self.rounded))
-        return None if self.mistakes else write_sheet(header, reaches, rows, gauges, flow_rows)
+        return None if self.mistakes else write_sheet(header, reaches, rows, gauges, flow_rows, bands)
 
     def line_of(self, fault: explain.Fault, found: Optional[Sheet]) -> int:
         """The line that a refusal lies in; of 10 to 12 the flow row's where its flow is the one at fault."""
         if fault.number == 3:
-            section = next(section for section in explain.SECTIONS if section.record == fault.field)
-            kind = fault.field.split()[0]
             return min(cell.line for (table, at, _), cell in self.cells.items()
-                       if table == kind and at > section.most)
+                       if table == fault.field and at > explain.most_records(table))
         if fault.number == 5:
             return self.cells["header", 0, fault.field].line
         if fault.number == 7:
@@ -395,9 +463,11 @@ class Maker:
         kind, at = fault.place
         if fault.flow:
             return self.cells["flow", fault.flow, "top_flow"].line
+        reach = explain.reach_of(found, at) if kind == "segment" else at
+        if fault.band:
+            return self.cells[explain.table_of_bands(reach), fault.band, fault.field if fault.field in Band._fields else "lowest"].line
         if kind == "segment":
-            name = "D" if fault.number == 11 else "segments"
-            return self.cells["reach", explain.reach_of(found, at), name].line
+            return self.cells["reach", reach, "D" if fault.number == 11 else "segments"].line
         kind = {6: "reach", 8: "boundary", 9: "gauge", 16: "flow"}[fault.number]
         return self.cells[kind, at, fault.field].line
 
@@ -409,21 +479,36 @@ class Maker:
 
 def allowed_words(name: str, kind: Quantity, unit: Optional[Unit]) -> str:
     """What document 01 allows of a field, where that does not depend on others."""
-    ranges = model.REACH_RANGES | model.header_ranges(model.MOST_STEPS) | {"concentration": model.CONCENTRATION}
-    kinds = REACH_KINDS | HEADER_KINDS | {"concentration": units.CONCENTRATION}
+    ranges = model.REACH_RANGES | model.header_ranges(model.MOST_STEPS) | model.BAND_RANGES | {
+        "concentration": model.CONCENTRATION, "from": model.FLOW}
+    kinds = REACH_KINDS | HEADER_KINDS | BAND_KINDS | {"concentration": units.CONCENTRATION, "from": units.FLOW}
     if name == "interval" or kinds.get(name) is not kind:       # a row's start is no reach's start figure
         return ""
     return f"; {explain.range_remedy(ranges[name], kind, unit)}"
 
 
-def write_sheet(header: Header, reaches: list[Reach], rows: list[Row], gauges: list[int],
-                flow_rows: list[FlowRow]) -> bytes:
-    """The sheet's bytes: the mark, OTR1 without flow rows, then all fields in order, counts before their records."""
+def band_of(figures: dict[str, int], begins: list[int]) -> Band:
+    """A band; one with `from` alone ends below the next flow at which a band of its reach begins."""
+    if "from" not in figures:
+        return Band(**figures)
+    lowest = figures["from"]
+    highest = next((begin - 1 for begin in begins if lowest < begin <= HIGHEST_FLOW), HIGHEST_FLOW)
+    return Band(lowest, highest, figures["A"], figures["D"], figures["AS"])
+
+
+def write_sheet(header: Header, reaches: list[Reach], rows: list[Row], gauges: list[int], flow_rows: list[FlowRow],
+                bands: Optional[list[list[Band]]]) -> bytes:
+    """The sheet's bytes: the mark, then all fields in order, counts before their records.
+
+    It is OTR3 with bands, with a list for each reach, else OTR2 with flow rows.
+    """
     fields = [*header, len(reaches), *(each for reach in reaches for each in reach),
               len(rows), *(each for row in rows for each in row), len(gauges), *gauges]
     if flow_rows:
         fields += [len(flow_rows), *(each for row in flow_rows for each in row)]
-    mark = FLOW_MARK if flow_rows else MARK
+    for table in bands or ():
+        fields += [len(table), *(each for band in table for each in band)]
+    mark = BAND_MARK if bands is not None else FLOW_MARK if flow_rows else MARK
     return mark + b"".join(figure.to_bytes(FIELD, "little") for figure in fields)
 
 
@@ -466,6 +551,28 @@ def table(kind: str, columns: dict[str, tuple[Quantity, list[int]]], notes: list
     yield from aligned([[kind, *columns], ["unit", *marks], *body], ["", "", *notes])
 
 
+def band_table(label: Label, bands: list[Band]) -> Iterator[str]:
+    """The table of a reach's bands; without a band it is a head and its units."""
+    ends = [band.highest for band in bands if band.highest != HIGHEST_FLOW]
+    flow_unit = liked_unit(units.FLOW, [0, *(band.lowest for band in bands), *ends])       # one for both limits
+    marks = {name: flow_unit if kind is units.FLOW else liked_unit(kind, [0, *(getattr(band, name) for band in bands)])
+             for name, kind in BAND_KINDS.items()}
+    rows = [["band", "reach", *marks], ["unit", "-", *marks.values()]]
+    for number, band in enumerate(bands, 1):
+        cells = {name: in_unit(figure, BAND_KINDS[name], marks[name]) for name, figure in band._asdict().items()}
+        if band.highest == HIGHEST_FLOW:
+            cells["highest"] = MAX
+        rows.append([str(number), str(label), *cells.values()])
+    yield from aligned(rows, [""] * len(rows))
+
+
+def read_bands(bands: list[list[Band]]) -> list[str]:
+    """A table for each reach that has bands; one for all where they are alike, or where none has any."""
+    if not any(bands) or (len(bands) > 1 and all(table == bands[0] for table in bands)):
+        return ["", *band_table(ALL, bands[0])]
+    return [line for reach, table in enumerate(bands, 1) if table for line in ("", *band_table(reach, table))]
+
+
 def read(sheet: bytes) -> str:
     """The text of a sheet that passes tests 1 to 4, whatever its figures; `make` gives the same bytes back."""
     found = model.walk(model.Walk(sheet))
@@ -486,4 +593,6 @@ def read(sheet: bytes) -> str:
         starts, tops = [list(column) for column in zip(*found.flow_rows)]
         lines += ["", *table("flow", {"step": (units.COUNT, starts), "top": (units.FLOW, tops)},
                              [explain.hours(dt * start) for start in starts])]
+    if model.has_bands(sheet):
+        lines += read_bands(found.bands)
     return "".join(line + "\n" for line in lines)

@@ -75,6 +75,7 @@ HEADER_KINDS = {"dt": TIME, "dx": LENGTH, "M": COUNT, "interval": COUNT, "top_fl
 REACH_KINDS = {"segments": COUNT, "D": DISPERSION, "A": AREA, "AS": AREA, "ALPHA": RATE, "qin": LATERAL_FLOW,
                "qout": LATERAL_FLOW, "CL": CONCENTRATION, "LAMBDA": RATE, "LAMBDA2": RATE, "LAMHAT": RATE,
                "LAMHAT2": RATE, "RHO": SEDIMENT, "Kd": DISTRIBUTION, "CB": CONCENTRATION, "start": CONCENTRATION}
+BAND_KINDS = {"lowest": FLOW, "highest": FLOW, "A": AREA, "D": DISPERSION, "AS": AREA}
 
 
 def spelled(unit: str) -> str:

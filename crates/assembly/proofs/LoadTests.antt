@@ -19,6 +19,7 @@ use Rattle.model.specs.Refusals.{nothing, segment, Finding, passes, fails, test
 use Rattle.model.specs.Load.{testFlows, loaded, sheetTests, courseTests, riverTests, listTests, loadTests, loadAnswer, columnsAfter, loadColumns}
 use Rattle.model.proofs.Refusals.{first-of, first-both, all-pass, flows-clear, each-clear, test-clear}
 use Rattle.terms.proofs.Lengths.{columns-first}
+use Rattle.sheet.specs.Walks.{Walked}
 use Rattle.course.specs.Segments.{siteFault, ClearFlows, Read}
 use Rattle.assembly.specs.Fit.{Fit}
 
@@ -79,20 +80,29 @@ module _ (sheet : List ℕ) where
   unfolding sheetTests courseTests siteFault
   river-tests n q = ap (λ k. sheetTests sheet ++ later sheet k) (sym q)
 
+  -- what the walk leaves for the tests behind it: 4, which looks for the end, and 19
+  pub before-4 : first (take 2 (riverTests sheet)) ≡ passes → Walked sheet
+  unfolding sheetTests
+  before-4 e = all-pass (take 2 (sheetTests sheet)) e .1 .0
+
+  pub before-19 : first (take 9 (riverTests sheet)) ≡ passes → Walked sheet
+  unfolding sheetTests
+  before-19 e = all-pass (take 9 (sheetTests sheet)) e .1 .0
+
   -- what the tests before 10, 11 and 12 leave for them
   module _ {n : ℕ} (q : n ≡ segmentCount sheet) where
-    pub before-10 : first (take 9 (riverTests sheet)) ≡ passes → Read sheet n × ClearFlows 10 n sheet
+    pub before-10 : first (take 10 (riverTests sheet)) ≡ passes → Read sheet n × ClearFlows 10 n sheet
     unfolding sheetTests
     before-10 e = (record { passed = e; count = q }, clear-start)
 
-    pub before-11 : first (take 10 (riverTests sheet)) ≡ passes → Read sheet n × ClearFlows 11 n sheet
+    pub before-11 : first (take 11 (riverTests sheet)) ≡ passes → Read sheet n × ClearFlows 11 n sheet
     unfolding sheetTests courseTests siteFault
     before-11 e =
         let both = first-both (sheetTests sheet) (take 1 (later sheet (segmentCount sheet))) e in
         let all = all-pass (take 1 (later sheet (segmentCount sheet))) (both .1) in
         (record { passed = both .0; count = q }, rw q (clear-next clear-start (all .0)))
 
-    pub before-12 : first (take 11 (riverTests sheet)) ≡ passes → Read sheet n × ClearFlows 12 n sheet
+    pub before-12 : first (take 12 (riverTests sheet)) ≡ passes → Read sheet n × ClearFlows 12 n sheet
     unfolding sheetTests courseTests siteFault
     before-12 e =
         let both = first-both (sheetTests sheet) (take 2 (later sheet (segmentCount sheet))) e in

@@ -7,7 +7,7 @@ use Rattle.model.specs.State.{Columns}
 use Rattle.terms.specs.Lent.{Long}
 use Rattle.course.specs.Segments.{Clear, Read}
 
--- tests 1 to 9 and 16 pass, 10 to 12 find no segment at fault with the row's flow, and each list has an entry for each segment
+-- tests 1 to 9, 16 and 19 pass, 10 to 12 find no segment at fault with the row's flow, and each list has an entry for each segment
 pub record Fit (sheet : List ℕ) (row : ℕ) (x : Columns) : Type 0 where
   pub read : Read sheet (segmentCount sheet)
   pub clear : Clear 13 (segmentCount sheet) (courseOf sheet row)

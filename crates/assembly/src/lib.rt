@@ -11,6 +11,7 @@ ghost use Rattle.terms.specs.Lent.{columns};
 ghost use Rattle.course.specs.Segments.{Read};
 ghost use Rattle.assembly.specs.Says.{loadedSays, loadSays};
 ghost use Rattle.assembly.specs.Fit.{Fit};
+use bands::bands_test;
 use columns::fill;
 use course::flows_test;
 use limits::MOST_SEGMENTS;
@@ -64,11 +65,11 @@ fn finding(number: u32, fault: bool) -> Finding
     Finding::Passes
 }
 
-// The tests of a sheet by itself: 1 to 12, with 2 and 3 as one, and 16.
-pub const TESTS: u32 = 12;
+// The tests of a sheet by itself: 1 to 12, with 2 and 3 as one, 16 and 19.
+pub const TESTS: u32 = 13;
 
-// "Tests run in the order of their numbers", 2 and 3 on one walk, "16 .. after 9": what test k of them finds, from 0, where those before it pass.
-// Behind the last nothing is at fault.
+// "Tests run in the order of their numbers", 2 and 3 on one walk, "16 .. after 9", "19 .. after 16": what test k of them finds, from 0, where
+// those before it pass. Behind the last nothing is at fault.
 pub fn kth_test(sheet: &[u8], k: u32) -> Finding
     requires { ⌜ first (take k (riverTests (now sheet))) ≡ passes ⌝ }
     ensures { λ r. ⌜ findingSays r ≡ getD (riverTests (entry sheet)) k passes ⌝ }
@@ -83,9 +84,10 @@ pub fn kth_test(sheet: &[u8], k: u32) -> Finding
         6 => entries_test(sheet, 8, Entries::Rows(steps(sheet))),
         7 => entries_test(sheet, 9, Entries::Gauges(segment_count(sheet))),
         8 => entries_test(sheet, 16, Entries::FlowRows(steps(sheet))),
-        9 => flows_test(sheet, segment_count(sheet), 10),
-        10 => flows_test(sheet, segment_count(sheet), 11),
-        11 => flows_test(sheet, segment_count(sheet), 12),
+        9 => bands_test(sheet),
+        10 => flows_test(sheet, segment_count(sheet), 10),
+        11 => flows_test(sheet, segment_count(sheet), 11),
+        12 => flows_test(sheet, segment_count(sheet), 12),
         _ => Finding::Passes,
     }
 }

@@ -5,10 +5,7 @@ ghost use Rattle.model.specs.State.{loadedSegments, writeSegments};
 ghost use Rattle.lists.specs.Lent.{entry, exit};
 ghost use Rattle.terms.specs.Lent.{columns, Long};
 ghost use Rattle.course.specs.Segments.{Clear, Read};
-use course::site;
-use halfstep::descent::Cursor;
-use sheet::fields::dx;
-use sheet::fields::reach;
+use course::descent::Descent;
 
 // "A loading gives each segment's half-step numbers, CL, CB, Kd and start figure in lists": the first n entries of each, with the set of
 // this row's flow.
@@ -35,11 +32,10 @@ pub fn fill(
     ensures { λ r. ⌜ columns exit e g l a b k ks h m s cl cb kd start ≡ writeSegments (loadedSegments (entry sheet) row)
         (columns entry e g l a b k ks h m s cl cb kd start) ⌝ }
 {
-    let step = dx(sheet);
-    let mut at = Cursor::start(reach(sheet, 0));
+    let mut at = Descent::start(sheet, row, n);
     let mut i: usize = 0;
     while i < n {
-        let here = site(sheet, row, at, n, i);
+        let here = at.site;
         let own = here.own;
         let numbers = here.numbers();
         e[i] = numbers.e;
@@ -56,7 +52,7 @@ pub fn fill(
         cb[i] = own.cb;
         kd[i] = own.kd;
         start[i] = own.start;
-        at = at.next(own, step);
+        at = at.next(sheet, n, i);
         i += 1;
     }
 }

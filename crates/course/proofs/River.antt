@@ -1,66 +1,20 @@
--- What a sheet that its own tests pass gives the descent of its river, and tests 10 to 12 of a segment by itself.
+-- What a sheet that its own tests pass gives a loading, and tests 10 to 12 of a segment by itself.
 use mathlib.Core.Bool.{Bool, true, false, cond}
 use mathlib.Core.List.{List}
-use mathlib.Core.Path.{_≡_, refl, sym, ap, _∙_}
+use mathlib.Core.Path.{_≡_, ap, _∙_}
 use Prim.Native.Nat.{ℕ, _+_, _^_, _<_, _≤_}
 use native.Mathlib.Omega.{arith}
 use borrow.Author.Tests.{ne-eqb}
-use lib.Dec.{eqb, leb}
-use lib.ListN.{length}
-use Rattle.lists.proofs.Tab.{length-tab, getD-tab}
-use Rattle.model.specs.Sheet.{Reach, edition, reachOn, reaches, reachCount, segmentCount, dt, dx, sections, sectionEnd, sectionsEnd, countAt, rowCountAt, gaugeCountAt, flowRowCountAt, flowRowCount}
-use Rattle.model.specs.Flow.{Course, topOf, courseOf, reachAt}
+use lib.Dec.{leb}
+use Rattle.model.specs.Sheet.{edition, sections, sectionEnd, sectionsEnd, countAt, rowCountAt, gaugeCountAt, flowRowCountAt, flowRowCount}
+use Rattle.model.specs.Flow.{Course, reachAt}
 use Rattle.model.specs.HalfStep.{Site, siteAt, Numbers, numbers}
 use Rattle.model.specs.Load.{flowFault, faceFault, sumFault, loaded}
 use Rattle.terms.specs.Says.{reachSays}
-use Rattle.terms.specs.declared.Reach as Code
 use Rattle.halfstep.specs.declared.Site as Held
-use Rattle.halfstep.specs.Ranges.{InRange}
-use Rattle.halfstep.specs.Descent.{reachNo, atTop, reachBelow, further, Descends}
-use Rattle.halfstep.specs.Site.{siteSays, siteOf, Passes, StandFor}
-use Rattle.halfstep.specs.declared.descent.Cursor.{Cursor}
-use Rattle.halfstep.proofs.Descending.{Along, Known}
-use Rattle.halfstep.proofs.Segments.{Descended, descended-top, known-at, descends-at, descended-next, below-at, site-at, fields-at}
-use Rattle.sheet.proofs.Passed.{ReachWithin, passed}
+use Rattle.halfstep.specs.Site.{siteSays, Passes, StandFor}
+use Rattle.sheet.proofs.Passed.{passed}
 use Rattle.course.specs.Segments.{siteFault, Clear, ClearSite, Read, IsSegment}
-
--- test 6 leaves the fields in their ranges
-in-range : {r : Reach} → ReachWithin r → InRange r
-in-range w = record {
-  segments = w .segments .low;
-  dispersion = w .dispersion .high;
-  area-low = w .area .low;
-  area = w .area .high;
-  area2-low = w .area2 .low;
-  area2 = w .area2 .high;
-  alpha = w .alpha .high;
-  qin = w .qin .high;
-  qout = w .qout .high;
-  rho = w .rho .high;
-  kd = w .kd .high;
-}
-
--- reach k, read from the sheet
-pub reach-at : (sheet : List ℕ) (k : ℕ) → k < length (reaches sheet) → reachOn sheet k ≡ reachNo (reaches sheet) k
-unfolding reaches
-reach-at sheet k h = sym (getD-tab (reachOn sheet) (reachCount sheet) k _ (rw length-tab at h))
-
--- the sheet's river with the flow of a row
-pub along : {sheet : List ℕ} {n : ℕ} → Read sheet n → (row : ℕ) → Along n (reaches sheet) (courseOf sheet row)
-unfolding courseOf segmentCount reaches
-along {sheet} {n} r row =
-    let p = passed sheet (r .passed) in
-    record {
-      river = refl;
-      count = r .count;
-      ranges = λ k h. rw (← reach-at sheet k h) (in-range (p .reach k (rw length-tab at h)));
-      steps = record { time = p .dt .high; length-low = p .dx .low; length = p .dx .high };
-      few = omega (arith, r .count, p .segments .high);
-    }
-
--- at most 1,024 segments
-pub few : {sheet : List ℕ} {n : ℕ} → Read sheet n → n ≤ 1024
-few {sheet} r = omega (arith, r .count, passed sheet (r .passed) .segments .high)
 
 -- at most 64 flow rows
 pub few-rows : {sheet : List ℕ} {n : ℕ} → Read sheet n → flowRowCount sheet ≤ 64
@@ -102,56 +56,6 @@ passes-site c h = record {
   flow = c .each 10 (omega arith) (omega arith);
   face = c .each 11 (omega arith) (omega arith);
 }
-
--- the sheet has a reach
-some-reach : {sheet : List ℕ} {n : ℕ} → Read sheet n → 0 < length (reaches sheet)
-unfolding reaches
-some-reach {sheet} r = rw length-tab (passed sheet (r .passed) .reachCounts .low)
-
--- a descent that starts at the top
-pub descended-start : {sheet : List ℕ} {n : ℕ} {first : Code.Reach} {at : Cursor} → Read sheet n → reachSays first ≡ reachOn sheet 0 →
-    at ≡ atTop (reachSays first) → Descended (reaches sheet) (dx sheet) 0 at
-descended-start {sheet} r is e = record { same = e ∙ descended-top {dx = dx sheet} (is ∙ reach-at sheet 0 (some-reach r)) .same }
-
--- the descent stands at segment i
-module _ {sheet : List ℕ} {n i : ℕ} {at : Cursor} (r : Read sheet n) (row : ℕ) (h : i < n) (w : Descended (reaches sheet) (dx sheet) i at) where
-  -- what the cursor has
-  known-here : Known (reaches sheet) (courseOf sheet row) i at
-  unfolding courseOf
-  known-here = known-at (along r row) h w
-
-  module _ {own : Code.Reach} (is : reachSays own ≡ reachOn sheet (at .reach)) where
-    -- the reach that was read is the segment's
-    own-read : reachSays own ≡ reachNo (reaches sheet) (at .reach)
-    own-read = is ∙ reach-at sheet (at .reach) (known-here .stands .known)
-
-    -- the descent can go on
-    pub descends-read : Descends (dx sheet) (reachSays own) at
-    unfolding courseOf
-    descends-read = descends-at (along r row) h w own-read
-
-    -- the segment, from its reach and the one below
-    pub site-read : {below : Code.Reach} {site : Held.Site} (b : ℕ) → b ≡ cond (eqb (i + 1) n) (at .reach) (reachBelow (reachSays own) at) → reachSays below ≡ reachOn sheet b →
-        siteSays site ≡ siteOf (dt sheet) (dx sheet) (topOf sheet row) at (reachSays own) (reachSays below) (eqb (i + 1) n) → IsSegment (courseOf sheet row) i site
-    unfolding courseOf
-    site-read b e f is-site =
-        let next = f ∙ ap (reachOn sheet) e ∙ reach-at sheet _ (below-at (along r row) h w own-read .known) in
-        record { same = is-site ∙ site-at (along r row) h w own-read next; fields = rw is-site (fields-at (along r row) h w own-read next) }
-
-  -- and goes on from there
-  module _ {site : Held.Site} (s : IsSegment (courseOf sheet row) i site) {step : ℕ} (d : step ≡ dx sheet) where
-    -- the site's reach is the cursor's
-    own-here : reachSays (site .own) ≡ reachNo (reaches sheet) (at .reach)
-    own-here = own-is s ∙ known-here .own
-
-    pub descends-here : Descends step (reachSays (site .own)) at
-    unfolding courseOf
-    descends-here = rw d (descends-at (along r row) h w own-here)
-
-    -- one segment further
-    pub descended-here : {next : Cursor} → next ≡ further step (reachSays (site .own)) at → Descended (reaches sheet) (dx sheet) (i + 1) next
-    unfolding courseOf
-    descended-here e = record { same = e ∙ rw d (descended-next (along r row) h w own-here .same) }
 
 -- which test a number names
 module _ (number : ℕ) (site : Site) where

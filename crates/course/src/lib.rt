@@ -1,44 +1,22 @@
 // The segments of a sheet that its own tests pass, one after another down the river, and tests 10 to 12 with each of its flows.
 ghost use mathlib.Core.Path.{_≡_};
-ghost use Prim.Native.Nat.{_<_, _≤_};
-ghost use Rattle.model.specs.Sheet.{dx, reaches, flowRowCount};
+ghost use Prim.Native.Nat.{_≤_};
+ghost use Rattle.model.specs.Sheet.{flowRowCount};
 ghost use Rattle.model.specs.Flow.{courseOf};
 ghost use Rattle.model.specs.HalfStep.{siteAt};
 ghost use Rattle.model.specs.Refusals.{segment, testEach};
 ghost use Rattle.model.specs.Load.{testFlows};
 ghost use Rattle.terms.specs.Says.{findingSays};
 ghost use Rattle.lists.specs.Lent.{entry};
-ghost use Rattle.halfstep.specs.Descent.{cursorAt};
 ghost use Rattle.halfstep.specs.Site.{siteSays};
-ghost use Rattle.course.specs.Segments.{siteFault, Clear, ClearFlows, ClearSite, Read, IsSegment};
+ghost use Rattle.course.specs.Segments.{siteFault, Clear, ClearFlows, ClearSite, Read};
+use descent::Descent;
 use halfstep::Site;
-use halfstep::descent::Cursor;
-use sheet::fields::dt;
-use sheet::fields::dx;
 use sheet::fields::flow_row_count;
-use sheet::fields::reach;
-use sheet::fields::top_of;
 use terms::Finding;
 use terms::Place;
 
-// Segment i of n with the flow of this row, where the descent of the river stands.
-pub fn site(sheet: &[u8], row: u32, at: Cursor, n: usize, i: usize) -> Site
-    requires { ⌜ Read (now sheet) n × (i < n) × (at ≡ cursorAt (reaches (now sheet)) (dx (now sheet)) i) ⌝ }
-    ensures { λ r. ⌜ IsSegment (courseOf (entry sheet) row) i r ⌝ }
-{
-    let own = reach(sheet, at.reach as usize);
-    let last = i + 1 == n;
-    let below = reach(sheet, at.below(own, last) as usize);
-    Site::new(
-        at,
-        own,
-        below,
-        last,
-        top_of(sheet, row),
-        dt(sheet),
-        dx(sheet),
-    )
-}
+pub mod descent;
 
 // 10. "A flow is below 0 or above 100,000,000", 11. "Q × dx exceeds AD own + AD below", 12. "T, V or h exceeds one whole".
 fn fault(number: u32, site: Site) -> bool
@@ -59,15 +37,14 @@ fn course_test(sheet: &[u8], row: u32, n: usize, number: u32) -> Finding
     requires { ⌜ Read (now sheet) n × (10 ≤ number) × Clear number n (courseOf (now sheet) row) ⌝ }
     ensures { λ r. ⌜ findingSays r ≡ testEach number segment n (λ i. siteFault number (siteAt (courseOf (entry sheet) row) i)) ⌝ }
 {
-    let step = dx(sheet);
-    let mut at = Cursor::start(reach(sheet, 0));
+    let mut at = Descent::start(sheet, row, n);
     let mut i: usize = 0;
     while i < n {
-        let here = site(sheet, row, at, n, i);
+        let here = at.site;
         if fault(number, here) {
             return Finding::Fails(number, Place::Segment(i as u32 + 1));
         }
-        at = at.next(here.own, step);
+        at = at.next(sheet, n, i);
         i += 1;
     }
     Finding::Passes

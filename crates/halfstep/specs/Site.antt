@@ -1,39 +1,25 @@
 -- A segment as the code has it, and what its half-step numbers want of it.
-use mathlib.Core.Bool.{Bool, false}
+use mathlib.Core.Bool.{false}
 use mathlib.Core.Path.{_≡_}
 use Prim.Native.Nat.{ℕ, _+_, _^_, _≤_, min}
 use Rattle.rounding.specs.Nearest.{S}
-use Rattle.model.specs.Sheet.{Reach}
-use Rattle.model.specs.Flow.{ownGain, flow}
-use Rattle.model.specs.HalfStep.{Site, ad, Numbers}
+use Rattle.model.specs.HalfStep.{Site, Numbers}
 use Rattle.model.specs.Load.{flowFault, faceFault, sumFault}
-use Rattle.terms.specs.Says.{reachSays}
-use Rattle.halfstep.specs.Ranges.{InRange, Steps}
-use Rattle.halfstep.specs.declared.descent.Cursor.{Cursor}
+use Rattle.terms.specs.Says.{reachSays, hydraulicsSay}
+use Rattle.halfstep.specs.Ranges.{Fit, InRange, Steps}
 use Rattle.halfstep.specs.declared.Site as Code
 
 -- the site of the definitions
 abbrev pub siteSays : Code.Site → Site
 siteSays site = record {
   own = reachSays (site .own);
+  hydraulics = hydraulicsSay (site .hydraulics);
   above = site .above;
   below = site .below;
   flow = site .flow;
   last = site .last;
   dt = site .dt;
   dx = site .dx;
-}
-
--- the segment where a descent stands; `below` is the reach of the segment below, of the last segment its own
-unfoldable pub siteOf : (dt dx top : ℕ) → Cursor → (own below : Reach) → Bool → Site
-siteOf dt dx top at own below last = record {
-  own = own;
-  above = at .above;
-  below = ad below;
-  flow = flow top (at .gain) (ownGain own dx);
-  last = last;
-  dt = dt;
-  dx = dx;
 }
 
 -- a number as the code gives it: one part above one whole stands for all that is more
@@ -43,6 +29,7 @@ cut x = min x (S + 1)
 -- the segment's fields are in their ranges
 pub record Fields (site : Site) : Type 0 where
   pub ranges : InRange (site .own)
+  pub fit : Fit (site .hydraulics)
   pub steps : Steps (site .dt) (site .dx)
   pub above : site .above ≤ 10 ^ 12
   pub below : site .below ≤ 10 ^ 12

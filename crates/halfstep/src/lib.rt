@@ -1,29 +1,28 @@
-// The flow of a segment and its half-step numbers: document 01, "Flow and half-step numbers", and document 02, 2, with tests 10 to 12, on
-// values.
+// The flow of a segment and its half-step numbers: document 01, "Flow and half-step numbers", and document 02, 2 and 6, with tests 10 to 12,
+// on values.
 ghost use mathlib.Core.Bool.{false};
 ghost use mathlib.Core.Path.{_≡_};
 ghost use Prim.Native.Nat.{_*_, _^_, _<_, _≤_};
-ghost use lib.IntN.{pos, natAbs};
+ghost use lib.IntN.{pos, natAbs, _+ℤ_};
 ghost use lib.Signed.{ltZ};
 ghost use Rattle.rounding.specs.Nearest.{S, parts};
 ghost use Rattle.model.specs.Ranges.{flows};
-ghost use Rattle.model.specs.Flow.{flow};
-ghost use Rattle.model.specs.HalfStep.{natural, rateOf, rounded, numbers};
+ghost use Rattle.model.specs.Flow.{ownGain, flow};
+ghost use Rattle.model.specs.HalfStep.{ad, natural, rateOf, rounded, numbers};
 ghost use Rattle.model.specs.Load.{flowFault, faceFault};
-ghost use Rattle.terms.specs.Says.{reachSays, numbersSay};
-ghost use Rattle.halfstep.specs.Descent.{mostGain, Descends};
-ghost use Rattle.halfstep.specs.Site.{siteSays, siteOf, cut, Fields, Passes, StandFor};
-use descent::Cursor;
+ghost use Rattle.terms.specs.Says.{reachSays, hydraulicsSay, numbersSay};
+ghost use Rattle.halfstep.specs.Ranges.{mostGain, Lateral};
+ghost use Rattle.halfstep.specs.Site.{siteSays, cut, Fields, Passes, StandFor};
 use rounding::signed;
+use terms::Hydraulics;
 use terms::Numbers;
 use terms::Reach;
 
-pub mod descent;
-
-// What the half-step numbers of a segment are worked out from: its reach, the AD above and below, its flow, whether it is the last
-// of the river, and the sheet's dt and dx.
+// What the half-step numbers of a segment are worked out from: its reach, its A, D and AS, the AD above and below, its flow, whether it is
+// the last of the river, and the sheet's dt and dx.
 pub struct Site {
     pub own: Reach,
+    pub hydraulics: Hydraulics,
     pub above: u64,
     pub below: u64,
     pub flow: i64,
@@ -35,13 +34,39 @@ pub struct Site {
 // The highest flow, in mL/s.
 const HIGHEST_FLOW: i64 = limits::FLOW.high as i64;
 
+// "AD is A × D of a segment".
+pub fn ad(x: Hydraulics) -> u64
+    ensures { λ r. ⌜ r ≡ ad (hydraulicsSay x) ⌝ }
+{
+    rounding::product(x.area, x.dispersion)
+}
+
+// A segment's own gain: (qin − qout) × dx.
+fn share(own: Reach, dx: u32) -> i64
+    requires { ⌜ Lateral (reachSays own) dx ⌝ }
+    ensures { λ r. ⌜ (r ≡ ownGain (reachSays own) dx) × (natAbs r ≤ 10 ^ 12) ⌝ }
+{
+    signed::times(
+        signed::minus(signed::int(own.qin), signed::int(own.qout)),
+        signed::int(dx),
+    )
+}
+
+// The gain of the segments before the next one.
+pub fn gain_below(gain: i64, own: Reach, dx: u32) -> i64
+    requires { ⌜ Lateral (reachSays own) dx × (natAbs gain ≤ mostGain) ⌝ }
+    ensures { λ r. ⌜ r ≡ gain +ℤ ownGain (reachSays own) dx ⌝ }
+{
+    signed::plus(gain, share(own, dx))
+}
+
 // The flow at the top, the gain of the segments before and half of the segment's own, rounded down once. There are 100,000 cm to
 // the km, and twice as many for twice the sum.
-fn flow(top: u32, gain: i64, own: i64) -> i64
-    requires { ⌜ (natAbs gain ≤ mostGain) × (natAbs own ≤ 10 ^ 12) ⌝ }
-    ensures { λ r. ⌜ r ≡ flow top gain own ⌝ }
+pub fn flow(top: u32, gain: i64, own: Reach, dx: u32) -> i64
+    requires { ⌜ Lateral (reachSays own) dx × (natAbs gain ≤ mostGain) ⌝ }
+    ensures { λ r. ⌜ r ≡ flow top gain (ownGain (reachSays own) dx) ⌝ }
 {
-    let twice = signed::plus(signed::times(2, gain), own);
+    let twice = signed::plus(signed::times(2, gain), share(own, dx));
     signed::plus(signed::int(top), signed::floor_div(twice, 200000))
 }
 
@@ -52,11 +77,13 @@ fn above_highest(flow: i64) -> bool
     HIGHEST_FLOW < flow
 }
 
-// Q as the formulas read it, of a flow that is not below 0.
-fn discharge(flow: i64) -> u64
-    requires { ⌜ ltZ flow (pos 0) ≡ false ⌝ }
+// Q as the formulas read it.
+pub fn discharge(flow: i64) -> u64
     ensures { λ r. ⌜ r ≡ natural flow ⌝ }
 {
+    if signed::below_zero(flow) {
+        return 0;
+    }
     flow as u64
 }
 
@@ -118,22 +145,6 @@ fn sorption(dt: u32, lamhat: u32, rho: u32, kd: u32, h: u32) -> u32
 }
 
 impl Site {
-    // The segment where a descent stands; `below` is the reach of the segment below, of the last segment its own.
-    pub fn new(at: Cursor, own: Reach, below: Reach, last: bool, top: u32, dt: u32, dx: u32) -> Site
-        requires { ⌜ Descends dx (reachSays own) at ⌝ }
-        ensures { λ r. ⌜ siteSays r ≡ siteOf dt dx top at (reachSays own) (reachSays below) last ⌝ }
-    {
-        Site {
-            own: own,
-            above: at.above,
-            below: descent::ad(below),
-            flow: flow(top, at.gain, descent::share(own, dx)),
-            last: last,
-            dt: dt,
-            dx: dx,
-        }
-    }
-
     // 10. "A flow is below 0 or above 100,000,000".
     pub fn flow_fault(self) -> bool
         ensures { λ r. ⌜ r ≡ flowFault (siteSays self) ⌝ }
@@ -157,8 +168,8 @@ impl Site {
         requires { ⌜ Fields (siteSays self) × (flowFault (siteSays self) ≡ false) ⌝ }
         ensures { λ r. ⌜ r ≡ faceFault (siteSays self) ⌝ }
     {
-        let own = self.own;
-        descent::ad(own) + self.below < self.carried()
+        let x = self.hydraulics;
+        ad(x) + self.below < self.carried()
     }
 
     // dt × (Q × dx + AD above + AD own) / (4 × A × dx²).
@@ -166,11 +177,11 @@ impl Site {
         requires { ⌜ Passes (siteSays self) ⌝ }
         ensures { λ r. ⌜ r ≡ cut (numbers (siteSays self) .e) ⌝ }
     {
-        let own = self.own;
+        let x = self.hydraulics;
         crossing(
             self.dt,
-            self.carried() + self.above + descent::ad(own),
-            face_divisor(own.area, self.dx),
+            self.carried() + self.above + ad(x),
+            face_divisor(x.area, self.dx),
         )
     }
 
@@ -182,11 +193,11 @@ impl Site {
         if self.last {
             return 0;
         }
-        let own = self.own;
+        let x = self.hydraulics;
         crossing(
             self.dt,
-            descent::ad(own) + self.below - self.carried(),
-            face_divisor(own.area, self.dx),
+            ad(x) + self.below - self.carried(),
+            face_divisor(x.area, self.dx),
         )
     }
 
@@ -196,14 +207,15 @@ impl Site {
         ensures { λ r. ⌜ StandFor (numbersSay r) (numbers (siteSays self)) ⌝ }
     {
         let own = self.own;
+        let x = self.hydraulics;
         let dt = self.dt;
         let h = rate(dt, own.lamhat);
         Numbers {
             e: self.e(),
             g: self.g(),
-            l: inflow(dt, own.qin, own.area),
+            l: inflow(dt, own.qin, x.area),
             a: rate(dt, own.alpha),
-            b: exchange(dt, own.alpha, own.area, own.area2),
+            b: exchange(dt, own.alpha, x.area, x.area2),
             k: rate(dt, own.lambda),
             ks: rate(dt, own.lambda2),
             h: h,

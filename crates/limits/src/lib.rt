@@ -21,7 +21,7 @@ pub const CONCENTRATION: Range = Range {
     high: 1_000_000_000,
 };
 
-// At the top, and of lateral flow per km.
+// At the top, in a band, and of lateral flow per km.
 pub const FLOW: Range = Range {
     low: 0,
     high: 100_000_000,
@@ -95,6 +95,12 @@ pub const GAUGES: Section = Section {
 pub const FLOW_ROWS: Section = Section {
     counts: Range { low: 1, high: 64 },
     width: 2,
+};
+
+// Of a reach.
+pub const BANDS: Section = Section {
+    counts: Range { low: 0, high: 32 },
+    width: 5,
 };
 
 // The highest concentration, in ng/L.

@@ -1,6 +1,6 @@
 -- Laws of `anyBelow`, `sumBelow` and `highestBelow`.
 use mathlib.Core.Path.{_≡_, refl, sym, ap, _∙_}
-use mathlib.Core.Bool.{Bool, true, false, cond, _||_, or-true}
+use mathlib.Core.Bool.{Bool, true, false, false≢true, cond, _||_, or-true, or-false}
 use mathlib.Core.Logic.{⊎-elim}
 use Prim.Native.Nat.{ℕ, zero, suc, _+_, _<_, _≤_, max}
 use native.Mathlib.Nat.{eq-or-lt-of-le}
@@ -44,6 +44,17 @@ any-none f zero e i h = absurd (omega arith)
 any-none f (suc n) e i h =
     let both = neither (anyBelow n f) (f n) e in
     ⊎-elim (λ q. ap f q ∙ both .1) (λ q. any-none f n (both .0) i q) (let l : i ≤ n = omega arith in eq-or-lt-of-le l)
+
+-- where one holds below n, there is one
+pub any-some : (f : ℕ → Bool) (n : ℕ) → anyBelow n f ≡ true → (i : ℕ) × (i < n) × (f i ≡ true)
+unfolding anyBelow
+any-some f zero e = absurd (false≢true e)
+any-some f (suc n) e = go (f n) refl e (any-some f n)
+  where
+    go : (t : Bool) → f n ≡ t → (anyBelow n f || t) ≡ true → (anyBelow n f ≡ true → (i : ℕ) × (i < n) × (f i ≡ true)) →
+        (i : ℕ) × (i < suc n) × (f i ≡ true)
+    go true q h rest = (n, omega arith, q)
+    go false q h rest = let x = rest (sym (or-false (anyBelow n f)) ∙ h) in (x .0, omega (arith, x .1), x .2)
 
 -- where each fails, none holds below n
 pub none-any : (f : ℕ → Bool) (n : ℕ) → ((i : ℕ) → i < n → f i ≡ false) → anyBelow n f ≡ false

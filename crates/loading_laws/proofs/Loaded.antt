@@ -25,7 +25,7 @@ use Rattle.model.specs.Runs.{OwnLists, LoadedFor, PairAsLoaded}
 use Rattle.model.specs.Claim.{LeftFor, LoadedLists}
 use Rattle.model.proofs.FlowRows.{in-force-known}
 use Rattle.model.proofs.Refusals.{all-pass, first-rest, first-both, flows-clear, test-clear, each-clear, each-passes, outcome-passes, accepted-passes, accepted-values}
-use Rattle.loading_laws.proofs.Sheets.{FitReach, right, river-length}
+use Rattle.loading_laws.proofs.Sheets.{FitReach, right, course-length}
 use Rattle.loading_laws.proofs.AsLoaded.{written-long, segments-written, segment-as-loaded, set-as-loaded}
 
 -- ---- what a start looks at
@@ -83,7 +83,7 @@ module _ (sheet : List ℕ) (r records : ℕ) (columns : Columns) (front : first
   start-clear i h =
       let ok = right sheet (first-both (sheetTests sheet) _ front .0) in
       rw (segment-as-loaded left-loaded i h)
-      (segment-passes (courseOf sheet r) (segmentCount sheet) i (river-length sheet r) (sums-pass i h) (ok .fit r i h))
+      (segment-passes (courseOf sheet r) (segmentCount sheet) i (course-length sheet r) (sums-pass i h) (ok .fit r i h))
 
   -- 13: they have an entry for each segment
   left-long : anyShorter (segmentCount sheet) (columnLists leftColumns) ≡ false

@@ -1,20 +1,21 @@
 -- What a sheet that passed its own tests is known for: a segment at the least, not too many, and reaches whose figures a start accepts.
-use mathlib.Core.Path.{_≡_, refl, ap, ap₂, _∙_}
+use mathlib.Core.Path.{_≡_, refl, ap, _∙_}
 use mathlib.Core.Bool.{Bool, true, false, cond}
 use mathlib.Core.List.{List, [], _∷_, _++_}
 use Prim.Native.Nat.{ℕ, zero, suc, _+_, _-_, _<_, _≤_}
 use native.Mathlib.Omega.{arith}
 use borrow.Author.Tests.{ltb-true, ltb-false}
 use lib.Dec.{ltb, lit<}
-use lib.ListN.{length, getD, replicate, length-append, length-replicate, getD-replicate, List·getD-append}
+use lib.ListN.{length, getD, replicate, length-replicate, getD-replicate, List·getD-append}
 use lib.Seq.{getD-append-add}
 use Rattle.lists.proofs.Tab.{length-tab, getD-tab}
 use Rattle.lists.proofs.Shorter.{neither}
 use Rattle.model.specs.Ranges.{Range, _to_, Section, outside, anyOutside, concentration, reachRanges, reachSection, mostKd, mostSegments}
-use Rattle.model.specs.Sheet.{Reach, edition, sections, field, reachCountAt, reachCount, reachFields, reachOf, reachOn, reaches, totalSegments, segmentCount, alongRiver}
-use Rattle.model.specs.Flow.{courseOf, reachAt}
+use Rattle.model.specs.Sheet.{Reach, BandedReach, edition, sections, field, reachCountAt, reachCount, reachFields, reachOf, reachOn, bandedOn, bandedReaches, totalSegments, segmentCount, alongRiver}
+use Rattle.model.specs.Flow.{noReach, courseOf, reachAt}
 use Rattle.model.specs.Refusals.{nothing, reach, Finding, passes, fails, first}
 use Rattle.model.specs.Load.{walk, sheetTests}
+use Rattle.model.proofs.Along.{total, river-length, total-segments}
 use Rattle.model.proofs.Ranges.{inside}
 use Rattle.model.proofs.Refusals.{fails-passes, all-pass, test-clear, each-clear}
 
@@ -53,36 +54,32 @@ reach-fit sheet i e =
 
 -- ---- the reaches laid out along the river
 
--- as many segments as the reaches have together
-length-along : (rs : List Reach) → length (alongRiver rs) ≡ totalSegments rs
-unfolding alongRiver totalSegments
-length-along [] = refl
-length-along (r ∷ rs) = length-append (replicate (r .segments) r) (alongRiver rs) ∙ ap₂ _+_ (length-replicate (r .segments) r) (length-along rs)
-
 -- one reach more in front
-fit-front : (r d : Reach) (more : List Reach) (i : ℕ) (t : Bool) → ltb i (r .segments) ≡ t → FitReach r → (r .segments ≤ i → FitReach (getD more (i - r .segments) d)) →
-    FitReach (getD (replicate (r .segments) r ++ more) i d)
+fit-front : (r d : BandedReach) (more : List BandedReach) (i : ℕ) (t : Bool) → ltb i (r .reach .segments) ≡ t → FitReach (r .reach) →
+    (r .reach .segments ≤ i → FitReach (getD more (i - r .reach .segments) d .reach)) → FitReach (getD (replicate (r .reach .segments) r ++ more) i d .reach)
 fit-front r d more i true e fit rest =
-    let h : i < r .segments = ltb-true _ _ e in
-    let l : i < length (replicate (r .segments) r) = rw (length-replicate (r .segments) r) h in
-    rw (List·getD-append (replicate (r .segments) r) more d i l, getD-replicate (r .segments) i r d h) fit
+    let h : i < r .reach .segments = ltb-true _ _ e in
+    let l : i < length (replicate (r .reach .segments) r) = rw (length-replicate (r .reach .segments) r) h in
+    rw (List·getD-append (replicate (r .reach .segments) r) more d i l, getD-replicate (r .reach .segments) i r d h) fit
 fit-front r d more i false e fit rest =
-    let h : r .segments ≤ i = ltb-false _ _ e in
-    let q : i ≡ length (replicate (r .segments) r) + (i - r .segments) = rw (length-replicate (r .segments) r) (omega arith) in
-    let at : getD (replicate (r .segments) r ++ more) i d ≡ getD more (i - r .segments) d =
-    ap (λ k. getD (replicate (r .segments) r ++ more) k d) q ∙ getD-append-add (replicate (r .segments) r) more (i - r .segments) d in
+    let n = r .reach .segments in
+    let h : n ≤ i = ltb-false _ _ e in
+    let q : i ≡ length (replicate n r) + (i - n) = rw (length-replicate n r) (omega arith) in
+    let at : getD (replicate n r ++ more) i d ≡ getD more (i - n) d =
+    ap (λ k. getD (replicate n r ++ more) k d) q ∙ getD-append-add (replicate n r) more (i - n) d in
     rw at (rest h)
 
 -- where every reach is fit, that of every segment is
-fit-along : (rs : List Reach) (d : Reach) → ((k : ℕ) → k < length rs → FitReach (getD rs k d)) → (i : ℕ) → i < totalSegments rs → FitReach (getD (alongRiver rs) i d)
+fit-along : (rs : List BandedReach) (d : BandedReach) → ((k : ℕ) → k < length rs → FitReach (getD rs k d .reach)) → (i : ℕ) → i < total rs →
+    FitReach (getD (alongRiver rs) i d .reach)
 unfolding alongRiver totalSegments
 fit-along [] d all i h = absurd (omega arith)
 fit-along (r ∷ rs) d all i h =
-    fit-front r d (alongRiver rs) i (ltb i (r .segments)) refl (all 0 (omega arith))
-    (λ l. fit-along rs d (λ k q. all (suc k) (omega arith)) (i - r .segments) (omega arith))
+    fit-front r d (alongRiver rs) i (ltb i (r .reach .segments)) refl (all 0 (omega arith))
+    (λ l. fit-along rs d (λ k q. all (suc k) (omega arith)) (i - r .reach .segments) (omega arith))
 
 -- there is a segment where there is a reach
-some-segment : (rs : List Reach) (d : Reach) → 0 < length rs → FitReach (getD rs 0 d) → 1 ≤ totalSegments rs
+some-segment : (rs : List BandedReach) (d : BandedReach) → 0 < length rs → FitReach (getD rs 0 d .reach) → 1 ≤ total rs
 unfolding totalSegments
 some-segment [] d h fit = absurd (omega arith)
 some-segment (r ∷ rs) d h fit = omega (arith, fit .segments)
@@ -108,23 +105,23 @@ pub record Right (sheet : List ℕ) : Type 0 where
 
 -- what its tests find of it
 pub right : (sheet : List ℕ) → first (sheetTests sheet) ≡ passes → Right sheet
-unfolding sheetTests sections reaches segmentCount courseOf reachAt
+unfolding sheetTests sections bandedReaches courseOf reachAt
 right sheet e =
     let t = all-pass (sheetTests sheet) e in
     let count = inside _ _ (counted sheet reachCountAt (reachSection (edition sheet)) _ (t .1 .0)) in
     let clear = each-clear 6 reach (reachCount sheet) (λ i. anyOutside (reachRanges (edition sheet)) (reachFields sheet i)) (t .1 .1 .1 .1 .0) in
-    let long = length-tab (reachOn sheet) 0 (reachCount sheet) in
-    let none = reachOf (λ k. 0) in
-    let fit : (k : ℕ) → k < length (reaches sheet) → FitReach (getD (reaches sheet) k none) =
-    λ k h. let l : k < reachCount sheet = rw long at h in rw (getD-tab (reachOn sheet) (reachCount sheet) k none l) (reach-fit sheet k (clear k l)) in
-    let h : 0 < length (reaches sheet) = rw long (count .0) in
+    let rs = bandedReaches sheet in
+    let long = length-tab (bandedOn sheet) 0 (reachCount sheet) in
+    let fit : (k : ℕ) → k < length rs → FitReach (getD rs k noReach .reach) =
+    λ k h. let l : k < reachCount sheet = rw long at h in rw (getD-tab (bandedOn sheet) (reachCount sheet) k noReach l) (reach-fit sheet k (clear k l)) in
+    let h : 0 < length rs = rw long (count .0) in
     record {
-      some = some-segment (reaches sheet) none h (fit 0 h);
+      some = rw (total-segments sheet) at (some-segment rs noReach h (fit 0 h));
       most = ltb-false _ _ (test-clear 7 _ (t .1 .1 .1 .1 .1 .0));
-      fit = λ r i l. fit-along (reaches sheet) none fit i l;
+      fit = λ r i l. fit-along rs noReach fit i (rw (total-segments sheet) l);
     }
 
 -- a course has as many segments as its sheet
-pub river-length : (sheet : List ℕ) (r : ℕ) → length (courseOf sheet r .river) ≡ segmentCount sheet
-unfolding courseOf segmentCount
-river-length sheet r = length-along (reaches sheet)
+pub course-length : (sheet : List ℕ) (r : ℕ) → length (courseOf sheet r .river) ≡ segmentCount sheet
+unfolding courseOf
+course-length sheet r = river-length (bandedReaches sheet) ∙ total-segments sheet

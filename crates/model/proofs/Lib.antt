@@ -4,9 +4,13 @@ pub mod Clamp
 pub mod Search
 pub mod Calls
 pub mod FlowRows
+pub mod Along
+pub mod Bands
 pub mod Bench
 pub mod FlowBench
 pub mod LateralBench
 pub mod PoolBench
 pub mod SearchBench
+pub mod BandBench
 pub mod Witnesses
+pub mod BandWitnesses

@@ -14,9 +14,10 @@ use Rattle.rounding.specs.Nearest.{nearest}
 use Rattle.rounding.specs.Floor.{floorDiv}
 use Rattle.fractions.specs.Fractions.{Same, Within, _·_}
 use Rattle.model.specs.Ranges.{outside, anyOutside}
-use Rattle.model.specs.Sheet.{flowRowStart, flowRowTop, flowRowStarts, flowRowTops, sections, edition, startsWith, field, headerField, sectionEnd, sectionsEnd, countAt, sheetEnd, flowRowCount, recordField, reachFields, reachOf, reachOn, reaches, rowStarts, rowConcentrations, gauges, totalSegments, segmentCount, alongRiver}
-use Rattle.model.specs.Flow.{lastBegun, flowInForce, topOf, courseOf, reachAt, ownGain, gain, flow}
-use Rattle.model.specs.HalfStep.{Numbers, Segment, siteAt, fractions, numbers, loadedSegment}
+use Rattle.model.specs.Sheet.{flowRowStart, flowRowTop, flowRowStarts, flowRowTops, sections, edition, startsWith, field, headerField, sectionEnd, sectionsEnd, countAt, sheetEnd, flowRowCount, recordField, reachFields, reachOf, reachOn, reaches, rowStarts, rowConcentrations, gauges, totalSegments, segmentCount, alongRiver, bandedReaches, bandCount, bandsOn}
+use Rattle.model.specs.Flow.{lastBegun, flowInForce, topOf, courseOf, reachAt, ownGain, gain, flow, bandsAt, flowAt}
+use Rattle.model.specs.Bands.{hydraulicsAt, bandsFault}
+use Rattle.model.specs.HalfStep.{Numbers, Segment, siteAt, fractions, numbers, loadedSegment, hydraulicsOf}
 use Rattle.model.specs.Sweep.{P, N, F, R, rowOf, newStorage, newSediment, newFigures, downward, stepped}
 use Rattle.model.specs.Equations.{Figures}
 use Rattle.model.specs.ExactRiver.{ExactFigures}
@@ -86,7 +87,7 @@ record WorkedOut : Type 0 where
   search : SearchMet
 
 worked-out : WorkedOut
-unfolding from10 refusedCalls accepts after run meltingFor meltingStart overlapping meltingStep meltingSteps meltingCalls noState lowestFrom lowest anyShorter notRising nearest floorDiv outside anyOutside startsWith field headerField sectionEnd sectionsEnd countAt sheetEnd recordField reachFields reachOf reachOn reaches rowStarts rowConcentrations gauges totalSegments segmentCount alongRiver courseOf reachAt ownGain gain flow siteAt fractions numbers loadedSegment P N F R rowOf newStorage newSediment newFigures downward stepped segmentAt writeSegments figuresAt writeFigures walk startsLate rowFault gaugeFault flowFault faceFault sumFault sheetTests courseTests listTests loadTests loaded loadAnswer loadColumns blocksFault riverFault segmentFault figureFault startFault stateFault heldFault startTests startLeft stepLeft result stepTests reportTests reported bytes allBytes zeros noWork topOf sections edition flowRowCount testFlows numbersFault numbersAt oldFault pairAt lastBegun flowInForce flowRowStart flowRowTop flowRowStarts flowRowTops flowRowFault snow melting first-e listed listedColumns listedState anyBelow sumBelow openSegments roomFault tableFault sharedFault openTests openAnswer openColumns allClosed openAt tableOf poolWith leftSince searchTests highestBelow blockHighest
+unfolding from10 refusedCalls accepts after run meltingFor meltingStart overlapping meltingStep meltingSteps meltingCalls noState lowestFrom lowest anyShorter notRising nearest floorDiv outside anyOutside startsWith field headerField sectionEnd sectionsEnd countAt sheetEnd recordField reachFields reachOf reachOn reaches rowStarts rowConcentrations gauges totalSegments segmentCount alongRiver bandedReaches bandCount bandsOn bandsAt flowAt hydraulicsOf hydraulicsAt bandsFault courseOf reachAt ownGain gain flow siteAt fractions numbers loadedSegment P N F R rowOf newStorage newSediment newFigures downward stepped segmentAt writeSegments figuresAt writeFigures walk startsLate rowFault gaugeFault flowFault faceFault sumFault sheetTests courseTests listTests loadTests loaded loadAnswer loadColumns blocksFault riverFault segmentFault figureFault startFault stateFault heldFault startTests startLeft stepLeft result stepTests reportTests reported bytes allBytes zeros noWork topOf sections edition flowRowCount testFlows numbersFault numbersAt oldFault pairAt lastBegun flowInForce flowRowStart flowRowTop flowRowStarts flowRowTops flowRowFault snow melting first-e listed listedColumns listedState anyBelow sumBelow openSegments roomFault tableFault sharedFault openTests openAnswer openColumns allClosed openAt tableOf poolWith leftSince searchTests highestBelow blockHighest
 worked-out =
     let pair0 : PairAsLoaded melting 0 2 (meltingFor 0 .numbers) (meltingFor 1) = record { before = refl; after = record { count = refl; segments = refl } } in
     let pair1 : PairAsLoaded melting 1 2 (meltingFor 1 .numbers) (meltingFor 1) = record { before = refl; after = record { count = refl; segments = refl } } in

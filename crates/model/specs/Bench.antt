@@ -6,7 +6,7 @@ use Prim.Native.Nat.{ℕ, zero, suc, _-_, _/_, _%_, _^_}
 use lib.ListN.{getD, replicate}
 use Rattle.rounding.specs.Nearest.{S, parts}
 use Rattle.model.specs.Sheet.{otr1, reachOf}
-use Rattle.model.specs.Flow.{Course, courseOf}
+use Rattle.model.specs.Flow.{Course, noReach, courseOf}
 use Rattle.model.specs.HalfStep.{tenOf, siteAt, discharge, numbers}
 use Rattle.model.specs.State.{Columns, State}
 use Rattle.model.specs.Refusals.{Outcome, accepted, refused}
@@ -55,7 +55,7 @@ brookRefusal dt Q = refusal (loadAnswer (brook dt Q 1 0) 0 1 (zeros 1))
 
 -- T4 and T5: three segments with qin 0 and qout 4,545, dx 1,000, below a flow of 1,000
 unfoldable pub slope : Course
-slope = record { dt = 1; dx = 1000; top = 1000; river = replicate 3 (reachOf (λ k. getD (replicate 6 0 ++ 4545 ∷ []) k 0)) }
+slope = record { dt = 1; dx = 1000; top = 1000; river = replicate 3 (record { reach = reachOf (λ k. getD (replicate 6 0 ++ 4545 ∷ []) k 0); bands = noReach .bands }) }
 
 -- T10 and T11: "brook, dt 1, Q 0, two segments, start 0, U 3,000 throughout", loaded, started and stepped once
 unfoldable pub brook2 : Columns

@@ -6,7 +6,7 @@ use lib.Dec.{leb}
 use lib.IntN.{ℤ, pos, _+ℤ_, _-ℤ_, _*ℤ_}
 use lib.ListN.{getD}
 use Rattle.rounding.specs.Floor.{floorDiv}
-use Rattle.model.specs.Sheet.{Reach, reachOf, dt, dx, topFlow, flowRowCount, flowRowStart, flowRowTop, reaches, alongRiver}
+use Rattle.model.specs.Sheet.{Reach, reachOf, bandOf, Bands, BandedReach, dt, dx, topFlow, flowRowCount, flowRowStart, flowRowTop, bandedReaches, alongRiver}
 
 -- flow r of a sheet, by "a flow row's number (0 for the top flow ..)": the flow at the top
 unfoldable pub topOf : List ℕ → ℕ → ℕ
@@ -27,15 +27,23 @@ pub record Course : Type 0 where
   pub dt : ℕ
   pub dx : ℕ
   pub top : ℕ
-  pub river : List Reach
+  pub river : List BandedReach
 
 -- that of a sheet for flow r
 unfoldable pub courseOf : List ℕ → (r : ℕ) → Course
-courseOf sheet r = record { dt = dt sheet; dx = dx sheet; top = topOf sheet r; river = alongRiver (reaches sheet) }
+courseOf sheet r = record { dt = dt sheet; dx = dx sheet; top = topOf sheet r; river = alongRiver (bandedReaches sheet) }
 
--- the reach of segment i; past the last segment, where nothing is read, a reach of zeros
+-- past the last segment, where nothing is read, a reach of zeros without bands
+abbrev pub noReach : BandedReach
+noReach = record { reach = reachOf (λ k. 0); bands = record { count = 0; band = λ j. bandOf (λ k. 0) } }
+
+-- the reach of segment i
 unfoldable pub reachAt : Course → ℕ → Reach
-reachAt course i = getD (course .river) i (reachOf (λ k. 0))
+reachAt course i = getD (course .river) i noReach .reach
+
+-- and the bands of that reach
+unfoldable pub bandsAt : Course → ℕ → Bands
+bandsAt course i = getD (course .river) i noReach .bands
 
 -- "(qin − qout) × dx": the own gain of a segment of this reach, of which 100,000 make a mL/s
 unfoldable pub ownGain : Reach → (dx : ℕ) → ℤ
@@ -50,3 +58,7 @@ gain course (suc i) = gain course i +ℤ ownGain (reachAt course i) (course .dx)
 -- half its own, rounded down once": twice that sum / 200,000, so that no half is rounded by itself.
 unfoldable pub flow : (top : ℕ) → (before own : ℤ) → ℤ
 flow top before own = pos top +ℤ floorDiv (pos 2 *ℤ before +ℤ own) 200000
+
+-- that of segment i, which rests on no A, D or AS
+unfoldable pub flowAt : Course → ℕ → ℤ
+flowAt course i = flow (course .top) (gain course i) (ownGain (reachAt course i) (course .dx))

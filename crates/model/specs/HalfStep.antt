@@ -5,12 +5,14 @@ use lib.Dec.{eqb}
 use lib.IntN.{ℤ, pos, negsuc}
 use lib.ListN.{length}
 use Rattle.rounding.specs.Nearest.{parts}
-use Rattle.model.specs.Sheet.{Reach}
-use Rattle.model.specs.Flow.{Course, reachAt, ownGain, gain, flow}
+use Rattle.model.specs.Sheet.{Reach, Hydraulics}
+use Rattle.model.specs.Flow.{Course, reachAt, bandsAt, flowAt}
+use Rattle.model.specs.Bands.{hydraulicsAt}
 
--- what the half-step numbers of a segment are worked out from; `above` and `below` are the AD there
+-- what the half-step numbers of a segment are worked out from: its reach, its A, D and AS, and the AD above and below it
 pub record Site : Type 0 where
   pub own : Reach
+  pub hydraulics : Hydraulics
   pub above : ℕ
   pub below : ℕ
   pub flow : ℤ
@@ -19,28 +21,32 @@ pub record Site : Type 0 where
   pub dx : ℕ
 
 -- "AD is A × D of a segment"
-abbrev pub ad : Reach → ℕ
-ad reach = reach .area * reach .dispersion
-
--- segment i of a course, from 0 at the top; "above the first and below the last, its own is used": 0 − 1 is 0
-unfoldable pub siteAt : Course → ℕ → Site
-siteAt course i =
-    let own = reachAt course i in
-    let last = eqb (suc i) (length (course .river)) in
-    record {
-      own = own;
-      above = ad (reachAt course (i - 1));
-      below = ad (reachAt course (cond last i (suc i)));
-      flow = flow (course .top) (gain course i) (ownGain own (course .dx));
-      last = last;
-      dt = course .dt;
-      dx = course .dx;
-    }
+abbrev pub ad : Hydraulics → ℕ
+ad x = x .area * x .dispersion
 
 -- Q as the formulas read it: a flow below 0 is refused (10) before any of them is used
 abbrev pub natural : ℤ → ℕ
 natural (pos n) = n
 natural (negsuc n) = 0
+
+-- A, D and AS of segment i: "Each segment takes the band that holds its own flow"
+unfoldable pub hydraulicsOf : Course → ℕ → Hydraulics
+hydraulicsOf course i = hydraulicsAt (bandsAt course i) (reachAt course i) (natural (flowAt course i))
+
+-- segment i of a course, from 0 at the top; "above the first and below the last, its own is used": 0 − 1 is 0
+unfoldable pub siteAt : Course → ℕ → Site
+siteAt course i =
+    let last = eqb (suc i) (length (course .river)) in
+    record {
+      own = reachAt course i;
+      hydraulics = hydraulicsOf course i;
+      above = ad (hydraulicsOf course (i - 1));
+      below = ad (hydraulicsOf course (cond last i (suc i)));
+      flow = flowAt course i;
+      last = last;
+      dt = course .dt;
+      dx = course .dx;
+    }
 
 -- Q of a segment
 abbrev pub discharge : Site → ℕ
@@ -93,17 +99,18 @@ fractions site =
     let dt = site .dt in
     let dx = site .dx in
     let r = site .own in
+    let x = site .hydraulics in
     let Q = discharge site in
     record {
       -- "e = dt × (Q × dx + AD above + AD own) / (4 × A × dx²)"
-      e = dt * (Q * dx + site .above + ad r) ÷ (4 * r .area * (dx * dx));
+      e = dt * (Q * dx + site .above + ad x) ÷ (4 * x .area * (dx * dx));
       -- "g = dt × (AD own + AD below − Q × dx) / (4 × A × dx²); 0 in the last segment." The difference is below 0 only where 11 refuses.
-      g = cond (site .last) 0 (dt * (ad r + site .below - Q * dx)) ÷ (4 * r .area * (dx * dx));
+      g = cond (site .last) 0 (dt * (ad x + site .below - Q * dx)) ÷ (4 * x .area * (dx * dx));
       -- "l = dt × qin / (2 × 10⁵ × A)"
-      l = dt * r .qin ÷ (2 * 10 ^ 5 * r .area);
+      l = dt * r .qin ÷ (2 * 10 ^ 5 * x .area);
       a = rateOf dt (r .alpha);
       -- "b = dt × ALPHA × A / (2 × 10⁹ × AS)"
-      b = dt * r .alpha * r .area ÷ (2 * 10 ^ 9 * r .area2);
+      b = dt * r .alpha * x .area ÷ (2 * 10 ^ 9 * x .area2);
       -- "k, ks, h, m as a, from LAMBDA, LAMBDA2, LAMHAT, LAMHAT2"
       k = rateOf dt (r .lambda);
       ks = rateOf dt (r .lambda2);

@@ -1,6 +1,7 @@
 pub mod Ranges
 pub mod Sheet
 pub mod Flow
+pub mod Bands
 pub mod HalfStep
 pub mod Equations
 pub mod Sweep
@@ -18,9 +19,12 @@ pub mod Pool
 pub mod PoolRuns
 pub mod PoolClaim
 pub mod SearchClaim
+pub mod BandClaim
 pub mod Bench
 pub mod FlowBench
 pub mod LateralBench
 pub mod PoolBench
 pub mod SearchBench
+pub mod BandBench
 pub mod Witnesses
+pub mod BandWitnesses

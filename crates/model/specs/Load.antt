@@ -1,4 +1,4 @@
--- A loading: tests 1 to 13 with 16 among them, its answer, and the later content of the lists that it is lent.
+-- A loading: tests 1 to 13 with 16 and 19 among them, its answer, and the later content of the lists that it is lent.
 use mathlib.Core.Bool.{Bool, not, cond, _||_}
 use mathlib.Core.List.{List, [], _∷_, _++_}
 use Prim.Native.Nat.{ℕ, zero, suc, _+_, _*_}
@@ -9,8 +9,9 @@ use lib.Signed.{ltZ}
 use Rattle.lists.specs.Lists.{tab, over, anyShorter, notRising}
 use Rattle.rounding.specs.Nearest.{S}
 use Rattle.model.specs.Ranges.{_to_, since, Section, outside, anyOutside, headerRanges, reachRanges, concentration, flows, mostSegments}
-use Rattle.model.specs.Sheet.{edition, sections, field, header, stepsM, interval, sectionEnd, reachCountAt, sheetEnd, rowCountAt, gaugeCountAt, flowRowCountAt, reachCount, rowCount, gaugeCount, flowRowCount, Reach, reachFields, reaches, rowStarts, rowConcentrations, gauges, flowRowStarts, flowRowTops, segmentCount}
+use Rattle.model.specs.Sheet.{edition, sections, field, header, stepsM, interval, sectionEnd, reachCountAt, sheetEnd, rowCountAt, gaugeCountAt, flowRowCountAt, reachCount, rowCount, gaugeCount, flowRowCount, Reach, reachFields, reaches, rowStarts, rowConcentrations, gauges, flowRowStarts, flowRowTops, segmentCount, bandsOn}
 use Rattle.model.specs.Flow.{Course, courseOf}
+use Rattle.model.specs.Bands.{bandsFault}
 use Rattle.model.specs.HalfStep.{Site, ad, siteAt, discharge, Numbers, numbers}
 use Rattle.model.specs.Equations.{sumT, sumV}
 use Rattle.model.specs.State.{Columns, columnLists, loadedSegments, writeSegments}
@@ -50,13 +51,13 @@ flowFault site = ltZ (site .flow) (pos (flows .low)) || ltZ (pos (flows .high)) 
 
 -- 11. "Q × dx exceeds AD own + AD below"
 unfoldable pub faceFault : Site → Bool
-faceFault site = ltb (ad (site .own) + site .below) (discharge site * site .dx)
+faceFault site = ltb (ad (site .hydraulics) + site .below) (discharge site * site .dx)
 
 -- 12. "T, V or h exceeds one whole"
 unfoldable pub sumFault : Numbers → Bool
 sumFault n = ltb S (sumT n) || ltb S (sumV n) || ltb S (n .h)
 
--- tests 1 to 9 and then 16, of the sheet's own fields
+-- tests 1 to 9 and then 16 and 19, of the sheet's own fields
 unfoldable pub sheetTests : List ℕ → List Finding
 sheetTests sheet =
     test 1 (eqb (edition sheet) 0) ∷
@@ -68,6 +69,7 @@ sheetTests sheet =
     testEach 8 row (rowCount sheet) (rowFault (stepsM sheet) (rowStarts sheet) (rowConcentrations sheet)) ∷
     testEach 9 row (gaugeCount sheet) (gaugeFault (segmentCount sheet) (gauges sheet)) ∷
     testEach 16 row (flowRowCount sheet) (flowRowFault (stepsM sheet) (flowRowStarts sheet) (flowRowTops sheet)) ∷
+    testEach 19 reach (reachCount sheet) (λ i. bandsFault (bandsOn sheet i)) ∷
     []
 
 -- a test "made for the top flow and then for every row in turn"; "the first flow at fault gives the place"
@@ -82,7 +84,7 @@ courseTests n rows course =
     testFlows rows (λ r. testEach 12 segment n (λ i. sumFault (numbers (siteAt (course r) i)))) ∷
     []
 
--- tests 1 to 12, of a sheet by itself; "16 .. after 9"
+-- tests 1 to 12, of a sheet by itself; "16 .. after 9", "19 .. after 16"
 abbrev pub riverTests : List ℕ → List Finding
 riverTests sheet = sheetTests sheet ++ courseTests (segmentCount sheet) (flowRowCount sheet) (courseOf sheet)
 

@@ -45,6 +45,10 @@ flows = 0 to 100000000
 abbrev pub areas : Range
 areas = 1 to 1000000
 
+-- "dispersion D (0 to 1,000,000 cm²/s)"
+abbrev pub dispersions : Range
+dispersions = 0 to 1000000
+
 -- "The five rates are 0 to 1,000,000,000, in 10⁻⁹ per second."
 abbrev pub rates : Range
 rates = 0 to 1000000000
@@ -80,7 +84,7 @@ headerRanges M =
 abbrev pub reachRanges : (edition : ℕ) → List Range
 reachRanges edition =
     (1 to mostSegments) ∷  -- segments
-    (0 to 1000000) ∷  -- dispersion D, cm²/s
+    dispersions ∷  -- dispersion D, cm²/s
     areas ∷  -- channel area A, cm²
     areas ∷  -- storage area AS, cm²
     rates ∷  -- exchange rate ALPHA
@@ -117,3 +121,7 @@ gaugeSection = record { counts = 1 to 32; width = 1 }
 -- Document 02, 1: "a count (1 to 64) of flow rows, each a start step and a top flow"
 abbrev pub flowSection : Section
 flowSection = record { counts = 1 to 64; width = 2 }
+
+-- Document 02, 6: "for each reach a count (0 to 32), then that many bands of these five fields"
+abbrev pub bandSection : Section
+bandSection = record { counts = 0 to 32; width = 5 }

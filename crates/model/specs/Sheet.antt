@@ -1,4 +1,4 @@
--- Document 01, "The river sheet", and document 02, 1: where each field stands on a sheet marked OTR1 or OTR2, and what is read there.
+-- Document 01, "The river sheet", and document 02, 1 and 6: where each field stands on a sheet marked OTR1, OTR2 or OTR3, and what is read there.
 -- A sheet is its list of bytes. Reaches, rows and gauges count from 1 in document 01 and from 0 here; places count from 1.
 use mathlib.Core.Bool.{Bool, true, false, cond, _&&_}
 use mathlib.Core.List.{List, [], _∷_, _++_}
@@ -6,7 +6,7 @@ use Prim.Native.Nat.{ℕ, _+_, _*_}
 use lib.Dec.{eqb}
 use lib.ListN.{getD, take, replicate}
 use Rattle.lists.specs.Lists.{tab}
-use Rattle.model.specs.Ranges.{since, Section, reachSection, rowSection, gaugeSection, flowSection}
+use Rattle.model.specs.Ranges.{since, Section, reachSection, rowSection, gaugeSection, flowSection, bandSection}
 
 -- "A sheet starts with the four bytes OTR1"
 abbrev pub otr1 : List ℕ
@@ -15,6 +15,10 @@ otr1 = 79 ∷ 84 ∷ 82 ∷ 49 ∷ []
 -- Document 02, 1: "A sheet marked OTR2"
 abbrev pub otr2 : List ℕ
 otr2 = 79 ∷ 84 ∷ 82 ∷ 50 ∷ []
+
+-- Document 02, 6: "A sheet marked OTR3"
+abbrev pub otr3 : List ℕ
+otr3 = 79 ∷ 84 ∷ 82 ∷ 51 ∷ []
 
 -- the sheet starts with these bytes
 unfoldable pub startsWith : List ℕ → List ℕ → Bool
@@ -27,7 +31,8 @@ unfoldable pub edition : List ℕ → ℕ
 edition sheet =
     cond (startsWith otr1 sheet) 1
     (cond (startsWith otr2 sheet) 2
-    0)
+    (cond (startsWith otr3 sheet) 3
+    0))
 
 -- "All fields are unsigned 32-bit, little-endian": the field whose first byte is byte number `at`, from 0 at the mark
 unfoldable pub field : List ℕ → ℕ → ℕ
@@ -73,9 +78,14 @@ reachCountAt = 4 + 4 * headerWidth
 abbrev pub reachCount : List ℕ → ℕ
 reachCount sheet = field sheet reachCountAt
 
+-- Document 02, 6: "an OTR2 sheet with a fifth section: for each reach a count", so that it is one section for each reach
+abbrev pub bandSections : List ℕ → List Section
+bandSections sheet = since 3 (edition sheet) (replicate (reachCount sheet) bandSection) []
+
 -- the sections behind the header, in the sheet's order. Document 02, 1: "A sheet marked OTR2 has a fourth section after the gauges"
 unfoldable pub sections : List ℕ → List Section
-sections sheet = reachSection (edition sheet) ∷ rowSection ∷ gaugeSection ∷ since 2 (edition sheet) (flowSection ∷ []) []
+sections sheet =
+    reachSection (edition sheet) ∷ rowSection ∷ gaugeSection ∷ since 2 (edition sheet) (flowSection ∷ bandSections sheet) []
 
 -- where a section whose count stands at `at` ends
 unfoldable pub sectionEnd : List ℕ → ℕ → Section → ℕ
@@ -106,6 +116,10 @@ gaugeCountAt sheet = countAt sheet 2
 abbrev pub flowRowCountAt : List ℕ → ℕ
 flowRowCountAt sheet = countAt sheet 3
 
+-- that of the bands of reach i
+abbrev pub bandCountAt : List ℕ → (i : ℕ) → ℕ
+bandCountAt sheet i = countAt sheet (4 + i)
+
 -- "Count of boundary rows"
 abbrev pub rowCount : List ℕ → ℕ
 rowCount sheet = field sheet (rowCountAt sheet)
@@ -117,6 +131,10 @@ gaugeCount sheet = field sheet (gaugeCountAt sheet)
 -- the count of flow rows, "0 in OTR1"
 unfoldable pub flowRowCount : List ℕ → ℕ
 flowRowCount sheet = since 2 (edition sheet) (field sheet (flowRowCountAt sheet)) 0
+
+-- the count of bands of reach i; a sheet without the section has none
+unfoldable pub bandCount : List ℕ → (i : ℕ) → ℕ
+bandCount sheet i = since 3 (edition sheet) (field sheet (bandCountAt sheet i)) 0
 
 -- field k of record i of a section whose count stands at `at`
 unfoldable pub recordField : List ℕ → ℕ → Section → ℕ → ℕ → ℕ
@@ -174,6 +192,35 @@ reachOn sheet i = reachOf (recordField sheet reachCountAt (reachSection (edition
 unfoldable pub reaches : List ℕ → List Reach
 reaches sheet = tab 0 (reachCount sheet) (reachOn sheet)
 
+-- A, D and AS: a reach's own, or a band's
+pub record Hydraulics : Type 0 where
+  pub area : ℕ
+  pub dispersion : ℕ
+  pub area2 : ℕ
+
+-- a band: "lowest flow, highest flow, A, D and AS"
+pub record Band : Type 0 where
+  pub lowest : ℕ
+  pub highest : ℕ
+  pub hydraulics : Hydraulics
+
+-- the band that five fields make
+abbrev pub bandOf : (ℕ → ℕ) → Band
+bandOf f = record { lowest = f 0; highest = f 1; hydraulics = record { area = f 2; dispersion = f 3; area2 = f 4 } }
+
+-- "a table of bands for each reach": how many there are, and band j, from 0 in the sheet's order
+pub record Bands : Type 0 where
+  pub count : ℕ
+  pub band : ℕ → Band
+
+-- the bands whose count stands at `at`
+abbrev pub bandsFrom : List ℕ → (count at : ℕ) → Bands
+bandsFrom sheet count at = record { count = count; band = λ j. bandOf (recordField sheet at bandSection j) }
+
+-- those of reach i
+unfoldable pub bandsOn : List ℕ → (i : ℕ) → Bands
+bandsOn sheet i = bandsFrom sheet (bandCount sheet i) (bandCountAt sheet i)
+
 -- boundary rows: start steps and concentrations
 unfoldable pub rowStarts : List ℕ → List ℕ
 rowStarts sheet = tab 0 (rowCount sheet) (λ j. recordField sheet (rowCountAt sheet) rowSection j 0)
@@ -211,7 +258,20 @@ totalSegments (r ∷ rs) = r .segments + totalSegments rs
 unfoldable pub segmentCount : List ℕ → ℕ
 segmentCount sheet = totalSegments (reaches sheet)
 
+-- a reach with its bands
+pub record BandedReach : Type 0 where
+  pub reach : Reach
+  pub bands : Bands
+
+-- reach i of a sheet
+abbrev pub bandedOn : List ℕ → (i : ℕ) → BandedReach
+bandedOn sheet i = record { reach = reachOn sheet i; bands = bandsOn sheet i }
+
+-- all of them
+unfoldable pub bandedReaches : List ℕ → List BandedReach
+bandedReaches sheet = tab 0 (reachCount sheet) (bandedOn sheet)
+
 -- "Segments count from 1 at the top": the reach of each segment, from the top down
-unfoldable pub alongRiver : List Reach → List Reach
+unfoldable pub alongRiver : List BandedReach → List BandedReach
 alongRiver [] = []
-alongRiver (r ∷ rs) = replicate (r .segments) r ++ alongRiver rs
+alongRiver (r ∷ rs) = replicate (r .reach .segments) r ++ alongRiver rs

@@ -23,7 +23,7 @@ use Rattle.model.proofs.Refusals.{all-pass, first-of, first-both}
 use Rattle.pool_laws.proofs.Openings.{newTests, lastTests, opening-passed}
 use Rattle.pool_laws.proofs.Pools.{shared-long}
 use Rattle.pool_laws.proofs.Tables.{room-clear}
-use Rattle.course.proofs.River.{few}
+use Rattle.course.proofs.Descending.{few}
 use Rattle.assembly.specs.Fit.{Fit}
 use Rattle.assembly.proofs.LoadTests.{fit}
 use Rattle.blocks.proofs.Fault.{blocks-long}

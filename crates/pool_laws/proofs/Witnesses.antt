@@ -11,9 +11,10 @@ use Rattle.lists.specs.Lists.{lowestFrom, lowest, anyShorter, notRising, anyBel
 use Rattle.rounding.specs.Nearest.{nearest}
 use Rattle.rounding.specs.Floor.{floorDiv}
 use Rattle.model.specs.Ranges.{outside, anyOutside}
-use Rattle.model.specs.Sheet.{flowRowStart, flowRowTop, flowRowStarts, flowRowTops, sections, edition, startsWith, field, headerField, sectionEnd, sectionsEnd, countAt, sheetEnd, flowRowCount, recordField, reachFields, reachOf, reachOn, reaches, rowStarts, rowConcentrations, gauges, totalSegments, segmentCount, alongRiver}
-use Rattle.model.specs.Flow.{lastBegun, flowInForce, topOf, courseOf, reachAt, ownGain, gain, flow}
-use Rattle.model.specs.HalfStep.{siteAt, fractions, numbers, loadedSegment}
+use Rattle.model.specs.Sheet.{flowRowStart, flowRowTop, flowRowStarts, flowRowTops, sections, edition, startsWith, field, headerField, sectionEnd, sectionsEnd, countAt, sheetEnd, flowRowCount, recordField, reachFields, reachOf, reachOn, reaches, rowStarts, rowConcentrations, gauges, totalSegments, segmentCount, alongRiver, bandedReaches, bandCount, bandsOn}
+use Rattle.model.specs.Flow.{lastBegun, flowInForce, topOf, courseOf, reachAt, ownGain, gain, flow, bandsAt, flowAt}
+use Rattle.model.specs.Bands.{hydraulicsAt, bandsFault}
+use Rattle.model.specs.HalfStep.{siteAt, fractions, numbers, loadedSegment, hydraulicsOf}
 use Rattle.model.specs.Sweep.{P, N, F, R, rowOf, newStorage, newSediment, newFigures, downward, stepped}
 use Rattle.model.specs.State.{State, pairAt, numbersAt, segmentAt, writeSegments, figuresAt, writeFigures}
 use Rattle.model.specs.Refusals.{accepted, passes, first}
@@ -34,7 +35,7 @@ use Rattle.model.proofs.Witnesses.{melting-fed, all-closed, names-first}
 -- what the calls answer, and which are river 1's own
 pool-calls : (AllAcceptedOn allClosed poolCalls) × (ownSince 1 allClosed poolCalls none ≡ some river1)
     × (ownSince 2 allClosed poolCalls none ≡ none)
-unfolding anyBelow sumBelow openSegments roomFault tableFault numberFault sharedFault poolTests poolResult closeFinding closedTable openTests openAnswer covered coveredBelow kept packed poolOpen poolAccepts afterCall ownSince runPool sheetWithStart allClosed poolCalls river1With river1 accepts after run meltingFor meltingStart meltingStep meltingSteps meltingCalls noState lowestFrom lowest anyShorter notRising nearest floorDiv outside anyOutside startsWith field headerField sectionEnd sectionsEnd countAt sheetEnd recordField reachFields reachOf reachOn reaches rowStarts rowConcentrations gauges totalSegments segmentCount alongRiver courseOf reachAt ownGain gain flow siteAt fractions numbers loadedSegment P N F R rowOf newStorage newSediment newFigures downward stepped segmentAt writeSegments figuresAt writeFigures walk startsLate rowFault gaugeFault flowFault faceFault sumFault sheetTests courseTests listTests loadTests loaded loadAnswer loadColumns blocksFault riverFault segmentFault figureFault startFault stateFault heldFault startTests startLeft stepLeft result stepTests reportTests reported bytes allBytes zeros noWork topOf sections edition flowRowCount testFlows numbersFault numbersAt oldFault pairAt lastBegun flowInForce flowRowStart flowRowTop flowRowStarts flowRowTops flowRowFault snow melting
+unfolding anyBelow sumBelow openSegments roomFault tableFault numberFault sharedFault poolTests poolResult closeFinding closedTable openTests openAnswer covered coveredBelow kept packed poolOpen poolAccepts afterCall ownSince runPool sheetWithStart allClosed poolCalls river1With river1 accepts after run meltingFor meltingStart meltingStep meltingSteps meltingCalls noState lowestFrom lowest anyShorter notRising nearest floorDiv outside anyOutside startsWith field headerField sectionEnd sectionsEnd countAt sheetEnd recordField reachFields reachOf reachOn reaches rowStarts rowConcentrations gauges totalSegments segmentCount alongRiver bandedReaches bandCount bandsOn bandsAt flowAt hydraulicsOf hydraulicsAt bandsFault courseOf reachAt ownGain gain flow siteAt fractions numbers loadedSegment P N F R rowOf newStorage newSediment newFigures downward stepped segmentAt writeSegments figuresAt writeFigures walk startsLate rowFault gaugeFault flowFault faceFault sumFault sheetTests courseTests listTests loadTests loaded loadAnswer loadColumns blocksFault riverFault segmentFault figureFault startFault stateFault heldFault startTests startLeft stepLeft result stepTests reportTests reported bytes allBytes zeros noWork topOf sections edition flowRowCount testFlows numbersFault numbersAt oldFault pairAt lastBegun flowInForce flowRowStart flowRowTop flowRowStarts flowRowTops flowRowFault snow melting
 pool-calls = (
   (tt, (tt, (tt, (tt, (tt, (tt, tt)))))),
   refl,
@@ -70,7 +71,7 @@ river1Highest = highestSince 1 allClosed poolCalls []
 river-1 : let pool = runPool allClosed poolCalls in
     (isOpen (slotOf (pool .table) 1) ≡ true) × (first (poolSearchTests (pool .table) (pool .channel) 1 river1Highest) ≡ passes)
     × (slotOf (pool .table) 1 .segments ≡ 2) × (100 < getD (river1State .channel) 0 0) × (100 < getD river1Highest 0 0)
-unfolding searchTests poolSearchTests highestBelow blockHighest startLeft stepLeft result openHighest poolResult highestSince anyBelow sumBelow openSegments roomFault tableFault numberFault sharedFault poolTests closeFinding closedTable openTests openAnswer covered coveredBelow kept packed poolOpen poolAccepts afterCall ownSince runPool sheetWithStart allClosed poolCalls river1With river1 accepts after run meltingFor meltingStart meltingStep meltingSteps meltingCalls noState lowestFrom lowest anyShorter notRising nearest floorDiv outside anyOutside startsWith field headerField sectionEnd sectionsEnd countAt sheetEnd recordField reachFields reachOf reachOn reaches rowStarts rowConcentrations gauges totalSegments segmentCount alongRiver courseOf reachAt ownGain gain flow siteAt fractions numbers loadedSegment P N F R rowOf newStorage newSediment newFigures downward stepped segmentAt writeSegments figuresAt writeFigures walk startsLate rowFault gaugeFault flowFault faceFault sumFault sheetTests courseTests listTests loadTests loaded loadAnswer loadColumns blocksFault riverFault segmentFault figureFault startFault stateFault heldFault startTests stepTests reportTests reported bytes allBytes zeros noWork topOf sections edition flowRowCount testFlows numbersFault numbersAt oldFault pairAt lastBegun flowInForce flowRowStart flowRowTop flowRowStarts flowRowTops flowRowFault snow melting
+unfolding searchTests poolSearchTests highestBelow blockHighest startLeft stepLeft result openHighest poolResult highestSince anyBelow sumBelow openSegments roomFault tableFault numberFault sharedFault poolTests closeFinding closedTable openTests openAnswer covered coveredBelow kept packed poolOpen poolAccepts afterCall ownSince runPool sheetWithStart allClosed poolCalls river1With river1 accepts after run meltingFor meltingStart meltingStep meltingSteps meltingCalls noState lowestFrom lowest anyShorter notRising nearest floorDiv outside anyOutside startsWith field headerField sectionEnd sectionsEnd countAt sheetEnd recordField reachFields reachOf reachOn reaches rowStarts rowConcentrations gauges totalSegments segmentCount alongRiver bandedReaches bandCount bandsOn bandsAt flowAt hydraulicsOf hydraulicsAt bandsFault courseOf reachAt ownGain gain flow siteAt fractions numbers loadedSegment P N F R rowOf newStorage newSediment newFigures downward stepped segmentAt writeSegments figuresAt writeFigures walk startsLate rowFault gaugeFault flowFault faceFault sumFault sheetTests courseTests listTests loadTests loaded loadAnswer loadColumns blocksFault riverFault segmentFault figureFault startFault stateFault heldFault startTests stepTests reportTests reported bytes allBytes zeros noWork topOf sections edition flowRowCount testFlows numbersFault numbersAt oldFault pairAt lastBegun flowInForce flowRowStart flowRowTop flowRowStarts flowRowTops flowRowFault snow melting
 river-1 = (refl, refl, refl, lit< tt, lit< tt)
 
 pub pool-search-met : PoolSearchMet
@@ -87,7 +88,7 @@ pool-search-met =
 tables : let table = runPool allClosed poolCalls .table in
     (closeFinding table 1 ≡ passes) × (isOpen (slotOf table 2) ≡ false) × (slotOf table 1 .steps ≡ 2)
     × (run (noState 2) (ownCalls (river1With (take 1 meltingSteps))) .steps ≡ 1)
-unfolding searchTests poolSearchTests highestBelow blockHighest startLeft stepLeft result openHighest poolResult highestSince anyBelow sumBelow openSegments roomFault tableFault numberFault sharedFault poolTests closeFinding closedTable openTests openAnswer covered coveredBelow kept packed poolOpen poolAccepts afterCall ownSince runPool sheetWithStart allClosed poolCalls river1With river1 accepts after run meltingFor meltingStart meltingStep meltingSteps meltingCalls noState lowestFrom lowest anyShorter notRising nearest floorDiv outside anyOutside startsWith field headerField sectionEnd sectionsEnd countAt sheetEnd recordField reachFields reachOf reachOn reaches rowStarts rowConcentrations gauges totalSegments segmentCount alongRiver courseOf reachAt ownGain gain flow siteAt fractions numbers loadedSegment P N F R rowOf newStorage newSediment newFigures downward stepped segmentAt writeSegments figuresAt writeFigures walk startsLate rowFault gaugeFault flowFault faceFault sumFault sheetTests courseTests listTests loadTests loaded loadAnswer loadColumns blocksFault riverFault segmentFault figureFault startFault stateFault heldFault startTests stepTests reportTests reported bytes allBytes zeros noWork topOf sections edition flowRowCount testFlows numbersFault numbersAt oldFault pairAt lastBegun flowInForce flowRowStart flowRowTop flowRowStarts flowRowTops flowRowFault snow melting
+unfolding searchTests poolSearchTests highestBelow blockHighest startLeft stepLeft result openHighest poolResult highestSince anyBelow sumBelow openSegments roomFault tableFault numberFault sharedFault poolTests closeFinding closedTable openTests openAnswer covered coveredBelow kept packed poolOpen poolAccepts afterCall ownSince runPool sheetWithStart allClosed poolCalls river1With river1 accepts after run meltingFor meltingStart meltingStep meltingSteps meltingCalls noState lowestFrom lowest anyShorter notRising nearest floorDiv outside anyOutside startsWith field headerField sectionEnd sectionsEnd countAt sheetEnd recordField reachFields reachOf reachOn reaches rowStarts rowConcentrations gauges totalSegments segmentCount alongRiver bandedReaches bandCount bandsOn bandsAt flowAt hydraulicsOf hydraulicsAt bandsFault courseOf reachAt ownGain gain flow siteAt fractions numbers loadedSegment P N F R rowOf newStorage newSediment newFigures downward stepped segmentAt writeSegments figuresAt writeFigures walk startsLate rowFault gaugeFault flowFault faceFault sumFault sheetTests courseTests listTests loadTests loaded loadAnswer loadColumns blocksFault riverFault segmentFault figureFault startFault stateFault heldFault startTests stepTests reportTests reported bytes allBytes zeros noWork topOf sections edition flowRowCount testFlows numbersFault numbersAt oldFault pairAt lastBegun flowInForce flowRowStart flowRowTop flowRowStarts flowRowTops flowRowFault snow melting
 tables = (refl, refl, refl, refl)
 
 pub shown-bench : ShownBench

@@ -7,4 +7,5 @@ pub mod InRange
 pub mod Segments
 pub mod Entries
 pub mod Flows
+pub mod BandSections
 pub mod Passed

@@ -1,4 +1,4 @@
--- What is known of a sheet that passed tests 1 to 9 and 16.
+-- What is known of a sheet that passed tests 1 to 9, 16 and 19.
 use mathlib.Core.Path.{_≡_}
 use mathlib.Core.Bool.{Bool, true, false, cond}
 use mathlib.Core.List.{List, [], _∷_}
@@ -8,15 +8,17 @@ use native.Mathlib.Omega.{arith}
 use borrow.Author.Tests.{ltb-false}
 use lib.Dec.{leb, lit<}
 use lib.ListN.{length, getD}
-use Rattle.model.specs.Ranges.{_to_, since, anyOutside, headerRanges, reachRanges, reachSection, rowSection, gaugeSection, flowSection}
-use Rattle.model.specs.Ranges.{concentration, flows, areas, rates, mostKd, mostSteps, mostSegments}
+use Rattle.model.specs.Ranges.{_to_, since, anyOutside, headerRanges, reachRanges, Section, reachSection, rowSection, gaugeSection, flowSection}
+use Rattle.model.specs.Ranges.{concentration, flows, areas, dispersions, rates, mostKd, mostSteps, mostSegments}
 use Rattle.model.specs.Sheet as Sheet
 use Rattle.model.specs.Sheet.{Reach, edition, sections, field, header, reachCountAt, reachCount, rowCount, gaugeCount, flowRowCount, countAt, rowCountAt, gaugeCountAt, flowRowCountAt, sectionsEnd, sheetEnd, reachFields}
-use Rattle.model.specs.Sheet.{reachOf, reachOn, reaches, segmentCount}
+use Rattle.model.specs.Sheet.{reachOf, reachOn, reaches, segmentCount, bandSections, bandsOn}
+use Rattle.model.specs.Bands.{bandsFault}
 use Rattle.model.specs.Sheet.{stepsM, rowStarts, rowConcentrations, gauges, flowRowStarts, flowRowTops}
 use Rattle.model.specs.Refusals.{passes, reach, row, first}
 use Rattle.model.specs.Load.{walk, rowFault, gaugeFault, flowRowFault, sheetTests}
 use Rattle.model.proofs.Refusals.{AllPass, all-pass, test-clear, each-clear}
+use Rattle.sheet.specs.Walks.{Walked}
 use Rattle.sheet.proofs.InRange.{Within, all-within}
 use Rattle.sheet.proofs.Walking.{walk-pass, walk-ends}
 use Rattle.sheet.proofs.Segments.{segments-first}
@@ -25,7 +27,7 @@ use Rattle.sheet.proofs.Entries.{RowRight, row-right, GaugeRight, gauge
 -- a reach whose fields are all in range
 pub record ReachWithin (r : Reach) : Type 0 where
   pub segments : Within (1 to mostSegments) (r .segments)
-  pub dispersion : Within (0 to 1000000) (r .dispersion)
+  pub dispersion : Within dispersions (r .dispersion)
   pub area : Within areas (r .area)
   pub area2 : Within areas (r .area2)
   pub alpha : Within rates (r .alpha)
@@ -71,6 +73,7 @@ pub record Passed (sheet : List ℕ) : Type 0 where
   pub rowCounts : Within (rowSection .counts) (rowCount sheet)
   pub gaugeCounts : Within (gaugeSection .counts) (gaugeCount sheet)
   pub flowRowCounts : flowRowCount sheet ≤ flowSection .counts .high
+  pub walked : Walked sheet
   pub ends : length sheet ≡ sheetEnd sheet
   pub dt : Within (1 to 3600) (Sheet.dt sheet)
   pub dx : Within (10 to 10000) (Sheet.dx sheet)
@@ -82,6 +85,7 @@ pub record Passed (sheet : List ℕ) : Type 0 where
   pub row : (j : ℕ) → j < rowCount sheet → RowRight (stepsM sheet) (rowStarts sheet) (rowConcentrations sheet) j
   pub gauge : (j : ℕ) → j < gaugeCount sheet → GaugeRight (segmentCount sheet) (gauges sheet) j
   pub flowRow : (j : ℕ) → j < flowRowCount sheet → FlowRowRight (stepsM sheet) (flowRowStarts sheet) (flowRowTops sheet) j
+  pub bands : (i : ℕ) → i < reachCount sheet → bandsFault (bandsOn sheet i) ≡ false
 
 header-field : (sheet : List ℕ) → anyOutside (headerRanges (stepsM sheet)) (header sheet) ≡ false → (k : ℕ) → k < 5 →
     Within (getD (headerRanges (stepsM sheet)) k (0 to 0)) (getD (header sheet) k 0)
@@ -92,17 +96,17 @@ some-segment : (sheet : List ℕ) → 0 < reachCount sheet → ReachWithin (reac
 unfolding segmentCount reaches
 some-segment sheet h r = omega (arith, segments-first (reachOn sheet) (reachCount sheet) h, r .segments .low)
 
--- the count of a last section that an edition may lack
-last-count : (sheet : List ℕ) (at : ℕ) (more : Bool) → walk sheet at (cond more (flowSection ∷ []) []) ≡ passes →
-    cond more (field sheet at) 0 ≤ flowSection .counts .high
-last-count sheet at true e = walk-pass sheet at flowSection [] e .0 .counts .high
-last-count sheet at false e = zero-le
+-- the count of a section that an edition may lack
+flow-count : (sheet : List ℕ) (at : ℕ) (has : Bool) (more : List Section) → walk sheet at (cond has (flowSection ∷ more) []) ≡ passes →
+    cond has (field sheet at) 0 ≤ flowSection .counts .high
+flow-count sheet at true more e = walk-pass sheet at flowSection more e .0 .counts .high
+flow-count sheet at false more e = zero-le
 
 pub passed : (sheet : List ℕ) → first (sheetTests sheet) ≡ passes → Passed sheet
 unfolding sheetTests sections sectionsEnd countAt sheetEnd flowRowCount
 passed sheet e =
     let t : AllPass (sheetTests sheet) = all-pass (sheetTests sheet) e in
-    let more = since 2 (edition sheet) (flowSection ∷ []) [] in
+    let more = since 2 (edition sheet) (flowSection ∷ bandSections sheet) [] in
     let rs = walk-pass sheet reachCountAt (reachSection (edition sheet)) (rowSection ∷ gaugeSection ∷ more) (t .1 .0) in
     let bs = walk-pass sheet (rowCountAt sheet) rowSection (gaugeSection ∷ more) (rs .1) in
     let gs = walk-pass sheet (gaugeCountAt sheet) gaugeSection more (bs .1) in
@@ -116,7 +120,8 @@ passed sheet e =
       reachCounts = rs .0 .counts;
       rowCounts = bs .0 .counts;
       gaugeCounts = gs .0 .counts;
-      flowRowCounts = last-count sheet (flowRowCountAt sheet) (leb 2 (edition sheet)) (gs .1);
+      flowRowCounts = flow-count sheet (flowRowCountAt sheet) (leb 2 (edition sheet)) (bandSections sheet) (gs .1);
+      walked = t .1 .0;
       ends = le-antisymm last (walk-ends sheet (flowRowCountAt sheet) more (gs .1) (gs .0 .ends));
       dt = head 0 (lit< tt);
       dx = head 1 (lit< tt);
@@ -132,4 +137,5 @@ passed sheet e =
       row = λ j h. row-right _ _ _ j (each-clear 8 row _ rows (t .1 .1 .1 .1 .1 .1 .0) j h);
       gauge = λ j h. gauge-right _ _ j (each-clear 9 row _ (gaugeFault (segmentCount sheet) (gauges sheet)) (t .1 .1 .1 .1 .1 .1 .1 .0) j h);
       flowRow = λ j h. flow-row-right _ _ _ j (each-clear 16 row _ flowRows (t .1 .1 .1 .1 .1 .1 .1 .1 .0) j h);
+      bands = each-clear 19 reach _ (λ i. bandsFault (bandsOn sheet i)) (t .1 .1 .1 .1 .1 .1 .1 .1 .1 .0);
     }

@@ -1,12 +1,12 @@
 -- Laws of `totalSegments`, for a loop that sums the reaches' segments.
-use mathlib.Core.Path.{_≡_, refl, ap₂, _∙_}
-use mathlib.Core.List.{List, [], _∷_}
+use mathlib.Core.Path.{_≡_, refl, ap₂}
+use mathlib.Core.List.{List}
 use Prim.Native.Nat.{ℕ, zero, suc, _+_, _-_, _*_, _<_, _≤_}
 use native.Mathlib.Numerals.{add-one}
 use native.Mathlib.Omega.{arith}
-use lib.ListN.{length, replicate, length-append, length-replicate}
+use lib.ListN.{length}
 use Rattle.lists.specs.Lists.{tab}
-use Rattle.model.specs.Sheet.{Reach, recordField, reachOf, reachOn, totalSegments, alongRiver}
+use Rattle.model.specs.Sheet.{Reach, recordField, reachOf, reachOn, totalSegments}
 use Rattle.sheet.proofs.Reading.{field-past}
 
 module _ (f : ℕ → Reach) (n i : ℕ) where
@@ -32,10 +32,3 @@ pub segments-first : (f : ℕ → Reach) (n : ℕ) → 0 < n → f 0 .segments �
 unfolding totalSegments
 segments-first f zero h = absurd (omega arith)
 segments-first f (suc n) h = omega arith
-
--- as many segments along the river
-pub length-along : (rs : List Reach) → length (alongRiver rs) ≡ totalSegments rs
-unfolding alongRiver totalSegments
-length-along [] = refl
-length-along (r ∷ rs) =
-    length-append (replicate (r .segments) r) (alongRiver rs) ∙ ap₂ _+_ (length-replicate (r .segments) r) (length-along rs)

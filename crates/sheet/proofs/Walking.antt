@@ -1,8 +1,8 @@
 -- Laws of `walk` and `sectionsEnd`, for loops that go from section to section.
-use mathlib.Core.Path.{_≡_, refl, sym, _∙_}
+use mathlib.Core.Path.{_≡_, refl, sym, ap, _∙_}
 use mathlib.Core.Bool.{true, false, cond}
 use mathlib.Core.List.{List, [], _∷_}
-use Prim.Native.Nat.{ℕ, _+_, _<_, _≤_}
+use Prim.Native.Nat.{ℕ, suc, _+_, _<_, _≤_}
 use native.Mathlib.Numerals.{add-one}
 use borrow.Author.Tests.{lt-ltb, le-ltb, ltb-false}
 use lib.Dec.{ltb}
@@ -81,6 +81,16 @@ walk-pass sheet at section more e =
     let ranged = cond-pass wrong 3 nothing after (counted .1) in
     let ended = cond-pass cut 2 nothing (walk sheet end more) (ranged .1) in
     (record { counts = within _ _ (ranged .0); ends = ltb-false _ _ (ended .0) }, ended .1)
+
+-- section k of sections that the walk passes
+pub walking-pass : {sheet : List ℕ} {from : ℕ} {sections : List Section} {k at : ℕ} → Walking sheet from sections k at →
+    (none : Section) → k < length sections → (section : Section) → section ≡ getD sections k none → walk sheet from sections ≡ passes →
+    (sectionEnd sheet at section ≤ length sheet) × Walking sheet from sections (k + 1) (sectionEnd sheet at section)
+walking-pass {sheet} {from} {sections} {k} {at} r none h section e passed =
+    let rest : walk sheet at (section ∷ drop (suc k) sections) ≡ passes =
+    ap (walk sheet at) (ap (λ s. s ∷ drop (suc k) sections) e ∙ sym (drop-cons sections k none h)) ∙ r .rest ∙ passed in
+    let w = walk-pass sheet at section (drop (suc k) sections) rest in
+    (w .0 .ends, record { rest = rw add-one (w .1 ∙ sym passed) })
 
 -- sections that the walk passed end on the sheet
 pub walk-ends : (sheet : List ℕ) (at : ℕ) (sections : List Section) → walk sheet at sections ≡ passes → at ≤ length sheet →

@@ -1,13 +1,14 @@
 // The mark, read as the number of an edition, and the sections that a sheet of that edition has.
 ghost use mathlib.Core.Path.{_≡_};
 ghost use mathlib.Core.List.{List};
-ghost use Prim.Native.Nat.{ℕ, _<_, _≤_};
+ghost use Prim.Native.Nat.{ℕ, _+_, _<_, _≤_};
 ghost use lib.ListN.{length, getD};
-ghost use Rattle.model.specs.Ranges.{reachSection, flowSection};
+ghost use Rattle.model.specs.Ranges.{reachSection, bandSection};
 ghost use Rattle.model.specs.Sheet as Document;
-ghost use Rattle.model.specs.Sheet.{startsWith, edition, sections};
+ghost use Rattle.model.specs.Sheet.{startsWith, edition, reachCount, sections};
 ghost use Rattle.lists.specs.Lent.{entry};
 ghost use Rattle.limits.specs.Says.{sectionSays};
+use limits::BANDS;
 use limits::FLOW_ROWS;
 use limits::GAUGES;
 use limits::REACHES;
@@ -35,6 +36,9 @@ pub fn edition(sheet: &[u8]) -> u32
     if starts_with(sheet, b"OTR2") {
         return 2;
     }
+    if starts_with(sheet, b"OTR3") {
+        return 3;
+    }
     0
 }
 
@@ -45,21 +49,29 @@ pub fn reach_section(edition: u32) -> Section
     REACHES
 }
 
-// How many sections a sheet of this edition has.
-pub fn section_count(edition: u32) -> usize
-    ensures { λ r. ⌜ ((s : List ℕ) → Document.edition s ≡ edition → r ≡ length (sections s)) × (r ≤ 4) ⌝ }
+// How many sections a sheet of this edition has: from the third on one more for each reach.
+pub fn section_count(edition: u32, reaches: u32) -> usize
+    ensures { λ r. ⌜ ((s : List ℕ) → Document.edition s ≡ edition → reachCount s ≡ reaches → r ≡ length (sections s)) × (r ≤ 4 + reaches) ⌝ }
 {
-    if edition < 2 { 3 } else { 4 }
+    if edition < 2 {
+        return 3;
+    }
+    if edition < 3 {
+        return 4;
+    }
+    4 + reaches as usize
 }
 
 // Section k of them.
 pub fn section_of(edition: u32, k: usize) -> Section
-    ensures { λ r. ⌜ ((s : List ℕ) → Document.edition s ≡ edition → sectionSays r ≡ getD (sections s) k flowSection) × (r .width < 32) ⌝ }
+    ensures { λ r. ⌜ ((s : List ℕ) → Document.edition s ≡ edition → k < length (sections s) → sectionSays r ≡ getD (sections s) k bandSection)
+        × (r .width < 32) ⌝ }
 {
     match k {
         0 => reach_section(edition),
         1 => ROWS,
         2 => GAUGES,
-        _ => FLOW_ROWS,
+        3 => FLOW_ROWS,
+        _ => BANDS,
     }
 }

@@ -1,9 +1,12 @@
 // A sheet's fields, read where the documents put them. Bytes past the end count as 0, so that every reading is defined for every sheet.
 ghost use mathlib.Core.Path.{_≡_};
+ghost use mathlib.Core.Bool.{true};
 ghost use Prim.Native.Nat.{_+_, _*_, _^_, _<_};
+ghost use lib.Dec.{leb};
 ghost use lib.ListN.{getD};
 ghost use Rattle.model.specs.Ranges.{reachSection, rowSection, gaugeSection};
-ghost use Rattle.model.specs.Sheet.{flowRowCountAt, flowRowCount, flowRowStart, flowRowTop};
+ghost use Rattle.model.specs.Sheet as Document;
+ghost use Rattle.model.specs.Sheet.{flowRowCountAt, flowRowCount, flowRowStart, flowRowTop, bandCountAt};
 ghost use Rattle.model.specs.Load.{loaded};
 ghost use Rattle.model.specs.Flow.{topOf, flowInForce};
 ghost use Rattle.model.specs.Sheet.{field, headerField, dt, dx, stepsM, interval, topFlow, recordField, reachOn, segmentCount};
@@ -44,6 +47,9 @@ pub fn field(sheet: &[u8], at: usize) -> u32
 {
     if sheet.len() <= at {
         return 0;
+    }
+    if 4 <= sheet.len() - at {
+        return word(sheet[at], sheet[at + 1], sheet[at + 2], sheet[at + 3]);
     }
     word(
         byte(sheet, at),
@@ -117,6 +123,13 @@ fn flow_row_count_at(sheet: &[u8]) -> usize
     ensures { λ r. ⌜ (r ≡ flowRowCountAt (entry sheet)) × (r < 2 ^ 42) ⌝ }
 {
     section_end(sheet, gauge_count_at(sheet), GAUGES)
+}
+
+// Behind the last flow row, on a sheet that has them: the count of the first reach's bands.
+pub fn band_count_at(sheet: &[u8]) -> usize
+    ensures { λ r. ⌜ (leb 3 (Document.edition (entry sheet)) ≡ true → r ≡ bandCountAt (entry sheet) 0) × (r < 2 ^ 43) ⌝ }
+{
+    section_end(sheet, flow_row_count_at(sheet), FLOW_ROWS)
 }
 
 pub fn reach_count(sheet: &[u8]) -> u32

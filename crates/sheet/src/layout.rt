@@ -5,6 +5,7 @@ ghost use Rattle.model.specs.Sheet.{sectionEnd};
 ghost use Rattle.lists.specs.Lent.{entry};
 ghost use Rattle.limits.specs.Says.{sectionSays};
 use crate::fields::field;
+use limits::BANDS;
 use limits::FLOW_ROWS;
 use limits::GAUGES;
 use limits::REACHES;
@@ -23,7 +24,8 @@ pub const LONGEST: usize = REACH_COUNT_AT
     + SIZE * (1 + (REACHES.width * REACHES.counts.high) as usize)
     + SIZE * (1 + (ROWS.width * ROWS.counts.high) as usize)
     + SIZE * (1 + (GAUGES.width * GAUGES.counts.high) as usize)
-    + SIZE * (1 + (FLOW_ROWS.width * FLOW_ROWS.counts.high) as usize);
+    + SIZE * (1 + (FLOW_ROWS.width * FLOW_ROWS.counts.high) as usize)
+    + SIZE * (REACHES.counts.high * (1 + BANDS.width * BANDS.counts.high)) as usize;
 
 // As far as a position can be.
 const FAR: usize = usize::MAX;
@@ -45,7 +47,7 @@ pub fn product(a: usize, b: usize) -> usize
 
 // Where a section ends whose count stands at `at`.
 pub fn section_end(sheet: &[u8], at: usize, section: Section) -> usize
-    requires { ⌜ (at < 2 ^ 60) × (section .width < 32) ⌝ }
+    requires { ⌜ (at < 2 ^ 63 + 2 ^ 32) × (section .width < 32) ⌝ }
     ensures { λ r. ⌜ (r ≡ sectionEnd (entry sheet) at (sectionSays section)) × (r < at + 2 ^ 39) ⌝ }
 {
     at + SIZE + SIZE * ((section.width as usize) * (field(sheet, at) as usize))

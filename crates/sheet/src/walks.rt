@@ -4,10 +4,12 @@ ghost use Rattle.model.specs.Sheet.{sections, reachCountAt, sheetEnd};
 ghost use Rattle.model.specs.Load.{walk};
 ghost use Rattle.terms.specs.Says.{findingSays};
 ghost use Rattle.lists.specs.Lent.{entry};
+ghost use Rattle.sheet.specs.Walks.{Walked};
 use crate::editions::edition;
 use crate::editions::section_count;
 use crate::editions::section_of;
 use crate::fields::field;
+use crate::fields::reach_count;
 use crate::layout::REACH_COUNT_AT;
 use crate::layout::SIZE;
 use crate::layout::section_end;
@@ -20,7 +22,7 @@ pub fn walk(sheet: &[u8]) -> Finding
     ensures { λ r. ⌜ findingSays r ≡ walk (entry sheet) reachCountAt (sections (entry sheet)) ⌝ }
 {
     let edition = edition(sheet);
-    let count = section_count(edition);
+    let count = section_count(edition, reach_count(sheet));
     let mut at: usize = REACH_COUNT_AT;
     let mut k: usize = 0;
     while k < count {
@@ -41,15 +43,18 @@ pub fn walk(sheet: &[u8]) -> Finding
     Finding::Passes
 }
 
-// The end of "whichever section is last", by the counts that the walk has passed.
+// The end of "whichever section is last", by the counts that the walk has passed; on a sheet that it refuses, as far as counts can be read.
 pub fn sheet_end(sheet: &[u8]) -> usize
-    ensures { λ r. ⌜ r ≡ sheetEnd (entry sheet) ⌝ }
+    ensures { λ r. ⌜ (Walked (entry sheet) → r ≡ sheetEnd (entry sheet)) ⌝ }
 {
     let edition = edition(sheet);
-    let count = section_count(edition);
+    let count = section_count(edition, reach_count(sheet));
     let mut at: usize = REACH_COUNT_AT;
     let mut k: usize = 0;
     while k < count {
+        if sheet.len() < at + SIZE {
+            return at;
+        }
         at = section_end(sheet, at, section_of(edition, k));
         k += 1;
     }

@@ -1,5 +1,5 @@
 -- "For an answer that is an enum, a definition gives this paper's number and values for each of its cases": the place, the finding,
--- the reach record and the half-step numbers of document 01 for each value of the code's types.
+-- the reach record, A, D and AS, and the half-step numbers of document 01 for each value of the code's types.
 use Rattle.model.specs.Refusals as Document
 use Rattle.model.specs.Sheet as Sheet
 use Rattle.terms.specs.declared.Place.{Place}
@@ -8,6 +8,7 @@ use Rattle.terms.specs.declared.Finding.{Finding}
 use Rattle.terms.specs.declared.Finding.the-variants.{Passes, Fails}
 use Rattle.model.specs.HalfStep as HalfStep
 use Rattle.terms.specs.declared.Reach as Record
+use Rattle.terms.specs.declared.Hydraulics as Code
 use Rattle.terms.specs.declared.Numbers.{Numbers}
 
 abbrev pub placeSays : Place → Document.Place
@@ -39,6 +40,9 @@ reachSays r = record {
   cb = r .cb;
   start = r .start;
 }
+
+abbrev pub hydraulicsSay : Code.Hydraulics → Sheet.Hydraulics
+hydraulicsSay x = record { area = x .area; dispersion = x .dispersion; area2 = x .area2 }
 
 abbrev pub numbersSay : Numbers → HalfStep.Numbers
 numbersSay n = record {

@@ -46,6 +46,13 @@ pub struct Reach {
     pub start: u32,
 }
 
+// A, D and AS of a segment: those of its reach, or of the band that holds its flow.
+pub struct Hydraulics {
+    pub area: u32,
+    pub dispersion: u32,
+    pub area2: u32,
+}
+
 // The ten half-step numbers of a segment, in parts of one whole.
 pub struct Numbers {
     pub e: u32,

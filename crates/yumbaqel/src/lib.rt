@@ -8,7 +8,7 @@ ghost use mathlib.Core.List.{map};
 ghost use Prim.Native.Nat.{_*_};
 ghost use lib.ListN.{length};
 ghost use Rattle.model.specs.Sheet.{dt, dx, rowStarts, rowConcentrations, gaugeCountAt, recordField};
-ghost use Rattle.model.specs.Ranges.{gaugeSection, mostSegments};
+ghost use Rattle.model.specs.Ranges.{gaugeSection, bandSection, mostSegments};
 ghost use Rattle.model.specs.Flow.{flowInForce};
 ghost use Rattle.model.specs.Load.{loadAnswer, loadColumns, loadRecords};
 ghost use Rattle.model.specs.Pool.{poolResult, PoolSearchAnswer, closeFinding, closedTable, openAnswer, openColumns, openRecords, poolOpen, openHighest};
@@ -19,6 +19,7 @@ ghost use Rattle.model.specs.Highest.{blockCount};
 ghost use Rattle.model.specs.Claim.{Demand3, LoadedLists};
 ghost use Rattle.model.specs.PoolClaim.{Sharing, OpenedLists};
 ghost use Rattle.model.specs.SearchClaim.{SearchTold, PoolSearchTold};
+ghost use Rattle.model.specs.BandClaim.{BandsCover, OrderFree};
 ghost use Rattle.terms.specs.Says.{reachSays};
 ghost use Rattle.lists.specs.Lent.{entry, exit};
 ghost use Rattle.terms.specs.Lent.{set, columns, state, working, left, tableIn, pool};
@@ -644,10 +645,21 @@ pub extern "C" fn yumbaqel_most_blocks() -> u32
     search_claim::most_blocks()
 }
 
-// The version of this interface, 3.1.0: the first number times 10,000, the second times 100 and the third.
+// The most bands of a reach, with the claims that test 19 passes exactly the bands that cover every flow once, and that their order moves no
+// number.
+#[no_mangle]
+pub extern "C" fn yumbaqel_most_bands() -> u32
+    ensures { λ r. ⌜ r ≡ bandSection .counts .high ⌝ }
+    ensures { λ r. ⌜ BandsCover ⌝ }
+    ensures { λ r. ⌜ OrderFree ⌝ }
+{
+    bands_claim::most_bands()
+}
+
+// The version of this interface, 3.2.0: the first number times 10,000, the second times 100 and the third.
 #[no_mangle]
 pub extern "C" fn yumbaqel_version() -> u32
-    ensures { λ r. ⌜ r ≡ 30100 ⌝ }
+    ensures { λ r. ⌜ r ≡ 30200 ⌝ }
 {
-    30100
+    30200
 }

@@ -12,12 +12,12 @@ use Rattle.assembly.proofs.river_test.Statement.{statement}
 use Rattle.assembly.proofs.river_test.Tie as tie
 
 abbrev Inv-loop : tie.InvT-loop
-Inv-loop sheet k₀ k = Judging (riverTests sheet) k × (k ≤ 12)
+Inv-loop sheet k₀ k = Judging (riverTests sheet) k × (k ≤ 13)
 
 abbrev μ-loop : tie.MeasureT-loop
-μ-loop sheet k₀ k = 12 - k
+μ-loop sheet k₀ k = 13 - k
 
-length-tests : (sheet : List ℕ) → length (riverTests sheet) ≡ 12
+length-tests : (sheet : List ℕ) → length (riverTests sheet) ≡ 13
 unfolding sheetTests courseTests
 length-tests sheet = refl
 

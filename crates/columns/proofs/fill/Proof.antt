@@ -1,27 +1,28 @@
--- `fill` meets its contract: the cursor stands at segment i, and the segments above are written. Assumes nothing.
+-- `fill` meets its contract: the descent stands at segment i, and the segments above are written. Assumes nothing.
 use Prim.Native.Nat.{_-_, _<_, _≤_}
 use native.Mathlib.Omega.{arith}
 use borrow.Author.Needs.{needs}
-use Rattle.model.specs.Sheet.{dx, reaches}
-use Rattle.model.specs.Flow.{courseOf}
+use Rattle.model.specs.Flow.{courseOf, topOf}
 use Rattle.lists.specs.Lent.{plain}
 use Rattle.terms.specs.Lent.{columns}
-use Rattle.halfstep.proofs.Segments.{Descended}
-use Rattle.course.proofs.River.{few, clear-site, passes-site, numbers-are, own-is, descended-start, descends-here, descended-here}
+use Rattle.course.specs.Segments.{IsSegment}
+use Rattle.course.specs.Descent.{Descended}
+use Rattle.course.proofs.Descending.{few, own-flow, on-course, gone-on}
+use Rattle.course.proofs.River.{clear-site, passes-site, numbers-are, own-is}
 use Rattle.columns.proofs.Writing.{Writing, in-list, writing-start, writing-turn, writing-end, segment-is}
 use Rattle.columns.proofs.fill.Statement.{statement}
 use Rattle.columns.proofs.fill.Tie as tie
 
 abbrev Inv-loop : tie.InvT-loop
-Inv-loop sheet row n e₀ g₀ l₀ a₀ b₀ k₀ ks₀ h₀ m₀ s₀ cl₀ cb₀ kd₀ start₀ step at₀ i₀ e g l a b k ks h m s cl cb kd start at i =
-    Descended (reaches sheet) (dx sheet) i at × Writing (courseOf sheet row) (columns plain e₀ g₀ l₀ a₀ b₀ k₀ ks₀ h₀ m₀ s₀ cl₀ cb₀ kd₀ start₀) i (columns plain e g l a b k ks h m s cl cb kd start) × (i ≤ n)
+Inv-loop sheet row n e₀ g₀ l₀ a₀ b₀ k₀ ks₀ h₀ m₀ s₀ cl₀ cb₀ kd₀ start₀ at₀ i₀ e g l a b k ks h m s cl cb kd start at i =
+    (i < n → Descended sheet n (topOf sheet row) i at) × Writing (courseOf sheet row) (columns plain e₀ g₀ l₀ a₀ b₀ k₀ ks₀ h₀ m₀ s₀ cl₀ cb₀ kd₀ start₀) i (columns plain e g l a b k ks h m s cl cb kd start) × (i ≤ n)
 
 abbrev μ-loop : tie.MeasureT-loop
-μ-loop sheet row n e₀ g₀ l₀ a₀ b₀ k₀ ks₀ h₀ m₀ s₀ cl₀ cb₀ kd₀ start₀ step at₀ i₀ e g l a b k ks h m s cl cb kd start at i = n - i
+μ-loop sheet row n e₀ g₀ l₀ a₀ b₀ k₀ ks₀ h₀ m₀ s₀ cl₀ cb₀ kd₀ start₀ at₀ i₀ e g l a b k ks h m s cl cb kd start at i = n - i
 
 -- the function's entry, from where the loop begins, and from a turn
 abbrev start : tie.After-start Inv-loop μ-loop → tie.Start Inv-loop μ-loop
-start c = c .before .before .before .before .before .before .before .before .before .before .before .before .before .before .before .before .before .before
+start c = c .before .before .before .before .before .before .before .before .before .before .before .before .before .before .before .before
 
 abbrev entry : tie.In-loop Inv-loop μ-loop → tie.Start Inv-loop μ-loop
 entry t = start (t .before .before)
@@ -33,31 +34,32 @@ turn c = c .before .before .before
 few-left : (t : tie.In-loop Inv-loop μ-loop) → t .before .loop .i < 1024
 few-left t = omega (arith, t .loop-test .taken, few (entry t .pre .0))
 
-loop-holds : tie.Need-loop-holds Inv-loop μ-loop
-loop-holds c = (descended-start (start c .pre .0) (c .before .reach .ensures) (c .start .ensures), writing-start, omega arith)
+-- the descent stands at segment i
+stands : (t : tie.In-loop Inv-loop μ-loop) → let a = entry t .args in Descended (a .sheet .now) (a .n) (topOf (a .sheet .now) (a .row)) (t .before .loop .i) (t .before .loop .at)
+stands t = t .before .loop .inv .0 (t .loop-test .taken)
 
-site-requires : tie.Need-site-requires Inv-loop μ-loop
-site-requires t κs = (entry t .pre .0, t .loop-test .taken, t .before .loop .inv .0 .same)
+here : (t : tie.In-loop Inv-loop μ-loop) → let a = entry t .args in IsSegment (courseOf (a .sheet .now) (a .row)) (t .before .loop .i) (t .before .loop .at .site)
+here t = on-course (entry t .args .row) (stands t)
+
+loop-holds : tie.Need-loop-holds Inv-loop μ-loop
+loop-holds c = (λ h. c .start .ensures, writing-start, omega arith)
 
 numbers-requires : tie.Need-numbers-requires Inv-loop μ-loop
 numbers-requires c κs =
     let t = c .before .before in
-    passes-site (clear-site (c .before .site .ensures) (omega arith) (entry t .pre .1) (t .loop-test .taken)) (omega arith)
+    passes-site (clear-site (here t) (omega arith) (entry t .pre .1) (t .loop-test .taken)) (omega arith)
 
 next-requires : tie.Need-next-requires Inv-loop μ-loop
-next-requires c κs =
-    let t = turn c in
-    descends-here (entry t .pre .0) _ (t .loop-test .taken) (t .before .loop .inv .0) (c .before .before .site .ensures) (t .before .before .before .before .dx .ensures)
+next-requires c κs = let t = turn c in (entry t .pre .0, t .loop-test .taken, own-flow (stands t))
 
 loop-again : tie.Need-loop-again Inv-loop μ-loop
 loop-again c =
     let t = turn (c .before) in
     let p = entry t .pre in
     let h = t .loop-test .taken in
-    let inv = t .before .loop .inv in
-    let s = c .before .before .before .site .ensures in (
-      descended-here (p .0) _ h (inv .0) s (t .before .before .before .before .dx .ensures) (c .next .ensures),
-      writing-turn (inv .1) (p .2) h (segment-is _ _ (c .before .numbers .result) (c .before .before .before .site .result .own) (numbers-are s (p .1) h (c .before .numbers .ensures)) (own-is s)),
+    let inv = t .before .loop .inv in (
+      λ more. gone-on (stands t) (c .next .ensures) more,
+      writing-turn (inv .1) (p .2) h (segment-is _ _ (c .before .numbers .result) (t .before .loop .at .site .own) (numbers-are (here t) (p .1) h (c .before .numbers .ensures)) (own-is (here t))),
       omega (arith, h),
     )
 
@@ -73,10 +75,7 @@ fill-spec =
     Inv-loop
     μ-loop
     (λ c κs. search needs)
-    (λ c κs. search needs)
-    (λ c κs. search needs)
     loop-holds
-    site-requires
     numbers-requires
     (λ c. omega (arith, few-left (turn c))) (λ c. let t = turn c in in-list (t .before .loop .inv .1 .e) (entry t .pre .2 .numbers .e) (t .loop-test .taken))
     (λ c. omega (arith, few-left (turn c))) (λ c. let t = turn c in in-list (t .before .loop .inv .1 .g) (entry t .pre .2 .numbers .g) (t .loop-test .taken))

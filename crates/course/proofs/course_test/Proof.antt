@@ -1,61 +1,62 @@
--- `course_test` meets its contract: the cursor stands at segment i, and no segment above is at fault. Assumes nothing.
+-- `course_test` meets its contract: the descent stands at segment i, and no segment above is at fault. Assumes nothing.
 use mathlib.Core.Path.{_≡_, sym, _∙_}
-use Prim.Native.Nat.{_-_}
+use Prim.Native.Nat.{_-_, _<_}
 use native.Mathlib.Omega.{arith}
-use borrow.Author.Needs.{needs}
 use Rattle.lists.proofs.Lowest.{Searching, searching-start, searching-miss}
-use Rattle.model.specs.Sheet.{dx, reaches}
-use Rattle.model.specs.Flow.{courseOf}
+use Rattle.model.specs.Flow.{courseOf, topOf}
 use Rattle.model.specs.HalfStep.{siteAt}
 use Rattle.model.specs.Refusals.{segment}
-use Rattle.halfstep.proofs.Segments.{Descended}
 use Rattle.sheet.proofs.Tests.{each-found, each-clear}
-use Rattle.course.specs.Segments.{siteFault}
-use Rattle.course.proofs.River.{few, clear-site, site-fault, descended-start, descends-here, descended-here}
+use Rattle.course.specs.Segments.{siteFault, IsSegment}
+use Rattle.course.specs.Descent.{Descended}
+use Rattle.course.proofs.Descending.{few, own-flow, on-course, gone-on}
+use Rattle.course.proofs.River.{clear-site, site-fault}
 use Rattle.course.proofs.course_test.Statement.{statement}
 use Rattle.course.proofs.course_test.Tie as tie
 
 abbrev Inv-loop : tie.InvT-loop
-Inv-loop sheet row n number step at₀ i₀ at i =
-    Descended (reaches sheet) (dx sheet) i at × Searching (λ k. siteFault number (siteAt (courseOf sheet row) k)) n i
+Inv-loop sheet row n number at₀ i₀ at i =
+    (i < n → Descended sheet n (topOf sheet row) i at) × Searching (λ k. siteFault number (siteAt (courseOf sheet row) k)) n i
 
 abbrev μ-loop : tie.MeasureT-loop
-μ-loop sheet row n number step at₀ i₀ at i = n - i
+μ-loop sheet row n number at₀ i₀ at i = n - i
 
-loop-holds : tie.Need-loop-holds Inv-loop μ-loop
-loop-holds c = (descended-start (c .before .before .before .before .pre .0) (c .before .reach .ensures) (c .start .ensures), searching-start)
+abbrev start : tie.At-loop Inv-loop μ-loop → tie.Start Inv-loop μ-loop
+start l = l .before .before .before
 
-site-requires : tie.Need-site-requires Inv-loop μ-loop
-site-requires c κs = (c .before .before .before .before .before .before .pre .0, c .loop-test .taken, c .before .loop .inv .0 .same)
+-- the descent stands at segment i
+stands : (c : tie.In-loop Inv-loop μ-loop) → let a = start (c .before) .args in Descended (a .sheet .now) (a .n) (topOf (a .sheet .now) (a .row)) (c .before .loop .i) (c .before .loop .at)
+stands c = c .before .loop .inv .0 (c .loop-test .taken)
+
+here : (c : tie.In-loop Inv-loop μ-loop) → let a = start (c .before) .args in IsSegment (courseOf (a .sheet .now) (a .row)) (c .before .loop .i) (c .before .loop .at .site)
+here c = on-course (start (c .before) .args .row) (stands c)
 
 fault-requires : tie.Need-fault-requires Inv-loop μ-loop
-fault-requires c κs = clear-site (c .site .ensures) (c .before .before .before .before .before .before .before .pre .1) (c .before .before .before .before .before .before .before .pre .2) (c .before .loop-test .taken)
+fault-requires c κs =
+    let p = start (c .before .before) .pre in
+    clear-site (here (c .before)) (p .1) (p .2) (c .before .loop-test .taken)
 
 -- what the test of segment i finds
 found : (c : tie.After-fault Inv-loop μ-loop) →
     let l = c .before .before .before in
-    let a = l .before .before .before .before .before .args in
+    let a = start l .args in
     siteFault (a .number) (siteAt (courseOf (a .sheet .now) (a .row)) (l .loop .i)) ≡ c .fault .result
-found c = sym (site-fault (c .before .site .ensures) _) ∙ sym (c .fault .ensures)
-
-cast-t12 : tie.Need-cast-t12 Inv-loop μ-loop
-cast-t12 c = omega (arith, few (c .before .before .before .before .before .before .before .before .before .pre .0))
-
-add-t13 : tie.Need-add-t13 Inv-loop μ-loop
-add-t13 c = omega (arith, few (c .before .before .before .before .before .before .before .before .before .pre .0))
+found c = sym (site-fault (here (c .before .before)) _) ∙ sym (c .fault .ensures)
 
 returns : tie.Need-returns Inv-loop μ-loop
-returns c = each-found _ segment (c .before .before .before .before .loop .inv .1) (c .before .before .before .loop-test .taken) (found (c .before) ∙ c .if1 .taken)
+returns c =
+    let t = c .before .before .before in
+    each-found _ segment (t .before .loop .inv .1) (t .loop-test .taken) (found (c .before) ∙ c .if1 .taken)
 
 next-requires : tie.Need-next-requires Inv-loop μ-loop
 next-requires c κs =
-    descends-here (c .before .before .before .before .before .before .before .before .before .pre .0) _ (c .before .before .before .loop-test .taken) (c .before .before .before .before .loop .inv .0) (c .before .before .site .ensures) (c .before .before .before .before .before .before .before .dx .ensures)
+    let t = c .before .before .before in
+    (start (t .before) .pre .0, t .loop-test .taken, own-flow (stands t))
 
 loop-again : tie.Need-loop-again Inv-loop μ-loop
-loop-again c = (
-  descended-here (c .before .before .before .before .before .before .before .before .before .before .pre .0) _ (c .before .before .before .before .loop-test .taken) (c .before .before .before .before .before .loop .inv .0) (c .before .before .before .site .ensures) (c .before .before .before .before .before .before .before .before .dx .ensures) (c .next .ensures),
-  searching-miss (c .before .before .before .before .before .loop .inv .1) (c .before .before .before .before .loop-test .taken) (found (c .before .before) ∙ c .before .if1 .left),
-)
+loop-again c =
+    let t = c .before .before .before .before in
+    (λ h. gone-on (stands t) (c .next .ensures) h, searching-miss (t .before .loop .inv .1) (t .loop-test .taken) (found (c .before .before) ∙ c .before .if1 .left))
 
 returns-2 : tie.Need-returns-2 Inv-loop μ-loop
 returns-2 c = each-clear _ segment (c .before .loop .inv .1) (c .loop-test .left)
@@ -66,17 +67,14 @@ course-test-spec =
     (tie.spec
     Inv-loop
     μ-loop
-    (λ c κs. search needs)
-    (λ c κs. search needs)
-    (λ c κs. search needs)
-    loop-holds
-    site-requires
+    (λ c κs. c .before .pre .0)
+    (λ c. (λ h. c .start .ensures, searching-start))
     fault-requires
-    cast-t12
-    add-t13
+    (λ c. let t = c .before .before .before in omega (arith, few (start (t .before) .pre .0), t .loop-test .taken))
+    (λ c. let t = c .before .before .before in omega (arith, few (start (t .before) .pre .0), t .loop-test .taken))
     returns
     next-requires
-    (λ c. search needs)
-    (λ c. search needs)
+    (λ c. let t = c .before .before .before .before in omega (arith, few (start (t .before) .pre .0), t .loop-test .taken))
+    (λ c. let t = c .before .before .before .before in omega (arith, t .loop-test .taken))
     loop-again
     returns-2)

@@ -2,7 +2,8 @@
 use native.Mathlib.Omega.{arith}
 use borrow.Author.Needs.{needs}
 use Rattle.model.specs.Load.{loaded}
-use Rattle.course.proofs.River.{few, rows-fit, gauges-fit, flow-rows-fit}
+use Rattle.course.proofs.Descending.{few}
+use Rattle.course.proofs.River.{rows-fit, gauges-fit, flow-rows-fit}
 use Rattle.assembly.proofs.Loaded.read.Statement.{statement}
 use Rattle.assembly.proofs.Loaded.read.Tie as tie
 

@@ -7,10 +7,10 @@ use Rattle.halfstep.proofs.Site.e.Statement.{statement}
 use Rattle.halfstep.proofs.Site.e.Tie as tie
 
 add-crossing-2 : tie.Need-add-crossing-2
-add-crossing-2 c = omega (arith, ad-le (c .before .before .before .before .pre .fields .ranges))
+add-crossing-2 c = omega (arith, ad-le (c .before .before .before .before .pre .fields .fit))
 
 crossing-requires : tie.Need-crossing-requires
-crossing-requires c κs = omega (arith, ad-le (c .before .before .before .before .before .pre .fields .ranges))
+crossing-requires c κs = omega (arith, ad-le (c .before .before .before .before .before .pre .fields .fit))
 
 returns : tie.Need-returns
 unfolding numbers fractions

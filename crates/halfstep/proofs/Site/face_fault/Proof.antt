@@ -7,7 +7,7 @@ use Rattle.halfstep.proofs.Site.face_fault.Statement.{statement}
 use Rattle.halfstep.proofs.Site.face_fault.Tie as tie
 
 add-result : tie.Need-add-result
-add-result c = omega (arith, ad-le (c .before .before .before .pre .0 .ranges))
+add-result c = omega (arith, ad-le (c .before .before .before .pre .0 .fit))
 
 returns : tie.Need-returns
 unfolding faceFault

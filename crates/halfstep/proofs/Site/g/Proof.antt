@@ -13,7 +13,7 @@ unfolding numbers fractions
 returns c = rw (c .if1 .taken) (rw (nearest-none))
 
 add-crossing : tie.Need-add-crossing
-add-crossing c = omega (arith, ad-le (c .before .before .before .before .pre .fields .ranges))
+add-crossing c = omega (arith, ad-le (c .before .before .before .before .pre .fields .fit))
 
 sub-crossing : tie.Need-sub-crossing
 sub-crossing c =
@@ -21,7 +21,7 @@ sub-crossing c =
     omega (arith, face-range (siteSays (start .args .self)) (start .pre .face))
 
 crossing-requires : tie.Need-crossing-requires
-crossing-requires c κs = omega (arith, ad-le (c .before .before .before .before .before .before .pre .fields .ranges))
+crossing-requires c κs = omega (arith, ad-le (c .before .before .before .before .before .before .pre .fields .fit))
 
 returns-2 : tie.Need-returns-2
 unfolding numbers fractions

@@ -18,7 +18,7 @@ returns c =
     let g = l .before in
     let e = g .before in
     let h = e .before in
-    stand-for {exact = numbers (siteSays (h .before .before .args .self))}
+    stand-for {exact = numbers (siteSays (h .before .before .before .args .self))}
     (record {
       e = alike-cut (e .e .ensures);
       g = alike-cut (g .g .ensures);

@@ -18,10 +18,36 @@ returns-2 c =
 returns-3 : tie.Need-returns-3
 unfolding edition
 returns-3 c =
-    let one = c .before .before .before in
-    rw (sym (one .before .starts-with .ensures) ∙ one .if1 .left, sym (c .before .starts-with2 .ensures) ∙ c .if2 .left)
+    let two = c .before .before .before in
+    let one = two .before .before .before in
+    rw (
+      sym (one .before .starts-with .ensures) ∙ one .if1 .left,
+      sym (two .before .starts-with2 .ensures) ∙ two .if2 .left,
+      sym (c .before .starts-with3 .ensures) ∙ c .if3 .taken,
+    )
+
+returns-4 : tie.Need-returns-4
+unfolding edition
+returns-4 c =
+    let two = c .before .before .before in
+    let one = two .before .before .before in
+    rw (
+      sym (one .before .starts-with .ensures) ∙ one .if1 .left,
+      sym (two .before .starts-with2 .ensures) ∙ two .if2 .left,
+      sym (c .before .starts-with3 .ensures) ∙ c .if3 .left,
+    )
 
 pub edition-spec : {M : Type 1} → statement M
 edition-spec =
     tie.close
-    (tie.spec (λ c. search needs) (λ c κs. search needs) returns (λ c. search needs) (λ c κs. search needs) returns-2 returns-3)
+    (tie.spec
+    (λ c. search needs)
+    (λ c κs. search needs)
+    returns
+    (λ c. search needs)
+    (λ c κs. search needs)
+    returns-2
+    (λ c. search needs)
+    (λ c κs. search needs)
+    returns-3
+    returns-4)

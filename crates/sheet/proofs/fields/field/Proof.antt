@@ -11,9 +11,13 @@ returns c = sym (field-past _ _ (c .if1 .taken))
 
 returns-2 : tie.Need-returns-2
 unfolding field
-returns-2 c =
+returns-2 c = c .word .ensures
+
+returns-3 : tie.Need-returns-3
+unfolding field
+returns-3 c =
     rw (
-      c .word .ensures,
+      c .word2 .ensures,
       c .before .byte4 .ensures,
       c .before .before .byte3 .ensures,
       c .before .before .before .byte2 .ensures,
@@ -25,6 +29,16 @@ field-spec =
     tie.close
     (tie.spec
     returns
+    (λ c. search needs)
+    (λ c. search needs)
+    (λ c. search needs)
+    (λ c. search needs)
+    (λ c. search needs)
+    (λ c. search needs)
+    (λ c. search needs)
+    (λ c. search needs)
+    (λ c κs. tt)
+    returns-2
     (λ c κs. tt)
     (λ c. search needs)
     (λ c κs. tt)
@@ -33,4 +47,4 @@ field-spec =
     (λ c. search needs)
     (λ c κs. tt)
     (λ c κs. tt)
-    returns-2)
+    returns-3)
