@@ -5,7 +5,12 @@ ghost use Rattle.model.specs.State.{loadedSegments, writeSegments};
 ghost use Rattle.lists.specs.Lent.{entry, exit};
 ghost use Rattle.terms.specs.Lent.{columns, Long};
 ghost use Rattle.course.specs.Segments.{Clear, Read};
-use course::descent::Descent;
+use bands::Bands;
+use course::descent::Cursor;
+use sheet::fields::dt;
+use sheet::fields::dx;
+use sheet::fields::reach;
+use sheet::fields::top_of;
 
 // "A loading gives each segment's half-step numbers, CL, CB, Kd and start figure in lists": the first n entries of each, with the set of
 // this row's flow.
@@ -32,12 +37,20 @@ pub fn fill(
     ensures { λ r. ⌜ columns exit e g l a b k ks h m s cl cb kd start ≡ writeSegments (loadedSegments (entry sheet) row)
         (columns entry e g l a b k ks h m s cl cb kd start) ⌝ }
 {
-    let mut at = Descent::start(sheet, row, n);
+    let top = top_of(sheet, row);
+    let dt = dt(sheet);
+    let dx = dx(sheet);
+    let mut own = reach(sheet, 0);
+    let mut table = Bands::first(sheet);
+    let mut here = Cursor::first(sheet, top, dx, own, table);
+    let mut above = here.ad();
     let mut i: usize = 0;
     while i < n {
-        let here = at.site;
-        let own = here.own;
-        let numbers = here.numbers();
+        let lower = here.reach_below(sheet, own);
+        let lower_table = here.bands_below(sheet, own, table);
+        let below = here.below(sheet, top, dx, n, i, own, lower, lower_table);
+        let site = here.site(own, above, below.ad(), i + 1 == n, dt, dx);
+        let numbers = site.numbers();
         e[i] = numbers.e;
         g[i] = numbers.g;
         l[i] = numbers.l;
@@ -52,7 +65,10 @@ pub fn fill(
         cb[i] = own.cb;
         kd[i] = own.kd;
         start[i] = own.start;
-        at = at.next(sheet, n, i);
+        above = here.ad();
+        own = lower;
+        table = lower_table;
+        here = below;
         i += 1;
     }
 }

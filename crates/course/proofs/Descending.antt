@@ -1,15 +1,16 @@
 -- The descent of the river: at every segment the cursor has what document 01 says of that segment, and so has the site.
+use mathlib.Core.Bool.{Bool, true, false, cond}
 use mathlib.Core.List.{List}
-use mathlib.Core.Path.{_≡_, refl, sym, ap, subst, _∙_}
+use mathlib.Core.Path.{_≡_, refl, ap, subst, _∙_}
 use Prim.Native.Nat.{ℕ, suc, _+_, _-_, _*_, _^_, _<_, _≤_}
 use native.Mathlib.Numerals.{add-one}
 use native.Mathlib.Omega.{arith}
-use borrow.Author.Tests.{ne-eqb}
+use borrow.Author.Tests.{eq-eqb, ne-eqb, eqb-false, lt-ltb, le-ltb}
 use lib.Dec.{eqb}
 use lib.IntN.{ℤ, pos, natAbs, _+ℤ_}
 use lib.ListN.{length, getD}
 use Rattle.model.specs.Sheet as Sheet
-use Rattle.model.specs.Sheet.{BandedReach, reachCount, reachOn, bandedOn, bandedReaches, bandsOn, totalSegments, alongRiver}
+use Rattle.model.specs.Sheet.{BandedReach, reachCount, reachOn, bandedOn, bandedReaches, bandsOn, totalSegments, segmentCount, alongRiver}
 use Rattle.model.specs.Flow.{noReach, courseOf, topOf, reachAt, bandsAt, ownGain, gain, flowAt}
 use Rattle.model.specs.Bands.{hydraulicsAt}
 use Rattle.model.specs.HalfStep.{Site, ad, natural, hydraulicsOf, siteAt}
@@ -20,15 +21,14 @@ use Rattle.bands.specs.Bands.{Standing}
 use Rattle.bands.specs.declared.Bands.{Bands}
 use Rattle.bands.proofs.Banded.{HydraulicsWithin, standing-hydraulics, hydraulics-within}
 use Rattle.sheet.proofs.Passed.{ReachWithin, Passed, passed}
-use Rattle.halfstep.specs.Ranges.{Fit, InRange, Lateral}
+use Rattle.halfstep.specs.Ranges.{Fit, InRange, Lateral, mostGain}
 use Rattle.halfstep.specs.declared.Site as Held
 use Rattle.halfstep.specs.Site.{siteSays}
 use Rattle.halfstep.proofs.Signed.{abs-sum, abs-gain}
 use Rattle.halfstep.proofs.Sites.{ad-le}
 use Rattle.course.specs.Segments.{Read, IsSegment}
-use Rattle.course.specs.Descent.{courseFrom, before, Arrives, Arrived, At, belowOf, Stands, Descended}
+use Rattle.course.specs.Descent.{courseFrom, before, Arrives, Arrived, At, numberBelow, reachBelow, Lower, Below, siteFrom, Stands}
 use Rattle.course.specs.declared.descent.Cursor.{Cursor}
-use Rattle.course.specs.declared.descent.Descent as Code
 use Rattle.course.proofs.Along.{reachNo, before-next, before-known, segment-reach, before-ge, count-reaches, reach-no}
 
 -- the flow of a row at the top
@@ -36,15 +36,11 @@ pub course-same : (sheet : List ℕ) (row : ℕ) → courseFrom sheet (topOf she
 unfolding courseFrom courseOf
 course-same sheet row = refl
 
--- a cursor stands at its own segment
-pub own-place : {sheet : List ℕ} {top i : ℕ} {at : Cursor} → At sheet top i at → At sheet top (at .segment) at
-own-place {sheet} {top} {i} {at} a = subst (λ k. At sheet top k at) (sym (a .segment)) a
-
--- and a descent has its own flow at the top
-pub own-flow : {sheet : List ℕ} {n top i : ℕ} {d : Code.Descent} → Descended sheet n top i d → Descended sheet n (d .top) i d
-own-flow {sheet} {n} {top} {i} {d} s = subst (λ u. Descended sheet n u i d) (sym (s .flow)) s
-
 -- ---- what the sheet's own tests leave
+
+-- of all its segments
+pub read-all : {sheet : List ℕ} {n : ℕ} → Read sheet n → Read sheet (segmentCount sheet)
+read-all r = record { passed = r .passed; count = refl }
 
 in-range : {r : Sheet.Reach} → ReachWithin r → InRange r
 in-range w = record {
@@ -90,8 +86,8 @@ module _ {sheet : List ℕ} {n : ℕ} (r : Read sheet n) where
       fit-within (hydraulics-within (bandsOn sheet k) (reachOn sheet k) Q (known .bands k h) (record { area = w .area; dispersion = w .dispersion; area2 = w .area2 }))
 
   -- as many reaches as segments at the most
-  pub number-few : {top i : ℕ} {at : Cursor} → At sheet top i at → i < n → at .number < 1024
-  number-few {top} {i} {at} a h =
+  pub number-few : {top i : ℕ} {own : Reach} {at : Cursor} → At sheet top i own at → i < n → at .number < 1024
+  number-few {top} {i} {own} {at} a h =
       let rs = bandedReaches sheet in
       let some : (j : ℕ) → j < length rs → 1 ≤ reachNo rs j .reach .segments =
       λ j q. let l : j < reachCount sheet = rw (count-reaches sheet) at q in rw (reach-no sheet j l) (reach-within j l .segments .low) in
@@ -118,7 +114,7 @@ module _ {sheet : List ℕ} {n : ℕ} (r : Read sheet n) where
     unfolding courseFrom bandsAt
     bands-here = ap (λ (x : BandedReach). x .bands) banded-here
 
-  module _ {top i : ℕ} {at : Cursor} (a : At sheet top i at) where
+  module _ {top i : ℕ} {own : Reach} {at : Cursor} (a : At sheet top i own at) where
     pub reach-at : reachAt (courseFrom sheet top) i ≡ reachOn sheet (at .number)
     reach-at = reach-here top (a .known) (a .within) (a .place)
 
@@ -126,20 +122,22 @@ module _ {sheet : List ℕ} {n : ℕ} (r : Read sheet n) where
     unfolding hydraulicsOf
     fit-at = rw (reach-at, bands-here top (a .known) (a .within) (a .place)) (fit-reach (at .number) _ (a .known))
 
-    -- what is worked out there fits its width
-    pub arrives : i < n → Arrives (Sheet.dx sheet) (at .reach) (at .bands) (at .gain)
-    arrives h = record {
-      lateral = rw (a .reach) (lateral (at .number) (a .known));
-      small = omega (arith, a .small, few);
-      near = a .bands .near;
-    }
+    -- its segments, and what its gain is worked out from
+    pub segments-at : own .segments ≡ reachOn sheet (at .number) .segments
+    segments-at = ap (λ (y : Sheet.Reach). y .segments) (a .reach)
+
+    pub lateral-at : Lateral (reachSays own) (Sheet.dx sheet)
+    lateral-at = rw (a .reach) (lateral (at .number) (a .known))
+
+    pub small-at : i < n → natAbs (at .gain) ≤ mostGain
+    small-at h = omega (arith, a .small, few)
 
   -- ---- arriving at a segment
 
-  module _ {top i segment number p : ℕ} {reach : Reach} {bands : Bands} {sum : ℤ} {at : Cursor}
-      (x : Arrived sheet top (Sheet.dx sheet) segment number p reach bands sum at) (place-is : segment ≡ i) (known-here : number < reachCount sheet)
-      (within : p < reachOn sheet number .segments) (place : i ≡ before (bandedReaches sheet) number + p) (is : reachSays reach ≡ reachOn sheet number)
-      (standing : Standing sheet number bands) (gained : sum ≡ gain (courseFrom sheet top) i) where
+  module _ {top i number p : ℕ} {own : Reach} {table : Bands} {sum : ℤ} {at : Cursor}
+      (x : Arrived sheet top (Sheet.dx sheet) number p own table sum at) (known-here : number < reachCount sheet)
+      (within : p < reachOn sheet number .segments) (place : i ≡ before (bandedReaches sheet) number + p) (is : reachSays own ≡ reachOn sheet number)
+      (standing : Standing sheet number table) (gained : sum ≡ gain (courseFrom sheet top) i) where
     flow-here : at .flow ≡ flowAt (courseFrom sheet top) i
     unfolding courseFrom flowAt
     flow-here = x .flow-is ∙ rw (is, gained, reach-here top known-here within place)
@@ -148,88 +146,110 @@ module _ {sheet : List ℕ} {n : ℕ} (r : Read sheet n) where
     unfolding hydraulicsOf
     hydraulics-here =
         x .hydraulics-is
-        ∙ standing-hydraulics standing (reachSays reach) (natural (at .flow))
+        ∙ standing-hydraulics standing (reachSays own) (natural (at .flow))
         ∙ rw (is, flow-here, reach-here top known-here within place, bands-here top known-here within place)
 
-    arrived-at : natAbs sum ≤ i * 10 ^ 12 → At sheet top i at
+    arrived-at : natAbs sum ≤ i * 10 ^ 12 → At sheet top i own at
     arrived-at small = record {
-      segment = x .segment-is ∙ place-is;
       known = rw (x .number-is) known-here;
       within = rw (x .passed-is, x .number-is) within;
       place = rw (x .passed-is, x .number-is) place;
-      reach = rw (x .reach-is, x .number-is) is;
-      bands = rw (x .bands-is, x .number-is) standing;
+      reach = rw (x .number-is) is;
       sum = x .gain-is ∙ gained;
       small = rw (x .gain-is) small;
       flow = flow-here;
       hydraulics = hydraulics-here;
     }
 
+  -- the first segment is in the first reach, since every reach has a segment
+  first-number : {top : ℕ} {own : Reach} {at : Cursor} → At sheet top 0 own at → at .number ≡ 0
+  first-number {top} {own} {at} a =
+      let rs = bandedReaches sheet in
+      let some : (j : ℕ) → j < length rs → 1 ≤ reachNo rs j .reach .segments =
+      λ j q. let l : j < reachCount sheet = rw (count-reaches sheet) at q in rw (reach-no sheet j l) (reach-within j l .segments .low) in
+      let many : at .number ≤ length rs = rw (count-reaches sheet) (omega (arith, a .known)) in
+      omega (arith, a .place, before-ge rs (at .number) some many)
+
   -- at the first
-  pub first-arrives : {reach : Reach} {bands : Bands} → reachSays reach ≡ reachOn sheet 0 → Standing sheet 0 bands → Arrives (Sheet.dx sheet) reach bands (pos 0)
+  pub first-arrives : {own : Reach} {table : Bands} → reachSays own ≡ reachOn sheet 0 → Standing sheet 0 table → Arrives (Sheet.dx sheet) own table (pos 0)
   first-arrives is standing = record { lateral = rw is (lateral 0 (known .reachCounts .low)); small = omega arith; near = standing .near }
 
-  pub first-at : {top : ℕ} {reach : Reach} {bands : Bands} {at : Cursor} → Arrived sheet top (Sheet.dx sheet) 0 0 0 reach bands (pos 0) at →
-      reachSays reach ≡ reachOn sheet 0 → Standing sheet 0 bands → At sheet top 0 at
+  pub first-at : {top : ℕ} {own : Reach} {table : Bands} {at : Cursor} → Arrived sheet top (Sheet.dx sheet) 0 0 own table (pos 0) at →
+      reachSays own ≡ reachOn sheet 0 → Standing sheet 0 table → At sheet top 0 own at
   unfolding totalSegments gain
-  first-at x is standing = let some = known .reachCounts .low in arrived-at x refl some (reach-within 0 some .segments .low) refl is standing refl (omega arith)
+  first-at x is standing = let some = known .reachCounts .low in arrived-at x some (reach-within 0 some .segments .low) refl is standing refl (omega arith)
+
+  -- what is known of the segment below, by whether it is the river's
+  pub below-last : {top i : ℕ} {own lower : Reach} {table : Bands} {at : Cursor} → At sheet top i own at → i + 1 ≡ n → Below sheet top n i lower table at
+  below-last {top} {i} a e =
+      record { next = λ h. absurd (omega arith); bands = λ h. absurd (omega arith); hydraulics = rw (eq-eqb (i + 1) n e) (a .hydraulics) }
+
+  below-next : {top i : ℕ} {lower : Reach} {table : Bands} {at : Cursor} → suc i < n → At sheet top (suc i) lower at → Standing sheet (at .number) table →
+      Below sheet top n i lower table at
+  below-next {top} {i} h a standing = record { next = λ l. a; bands = λ l. standing; hydraulics = rw (ne-eqb (i + 1) n (λ e. omega arith)) (a .hydraulics) }
 
   -- at the segment below
-  module _ {top i : ℕ} {at : Cursor} (a : At sheet top i at) {sum : ℤ} (gained : sum ≡ at .gain +ℤ ownGain (reachSays (at .reach)) (Sheet.dx sheet)) where
+  module _ {top i : ℕ} {own : Reach} {at : Cursor} (a : At sheet top i own at) {sum : ℤ} (gained : sum ≡ at .gain +ℤ ownGain (reachSays own) (Sheet.dx sheet))
+      (more : suc i < n) where
     gain-next : sum ≡ gain (courseFrom sheet top) (suc i)
     unfolding gain courseFrom
     gain-next = gained ∙ rw (a .sum, a .reach, reach-at a)
 
     small-next : natAbs sum ≤ suc i * 10 ^ 12
     small-next =
-        let own = reachSays (at .reach) in
-        let l = rw (← a .reach) at (lateral (at .number) (a .known)) in
-        rw gained (omega (arith, a .small, abs-sum (at .gain) (ownGain own (Sheet.dx sheet)), abs-gain own (Sheet.dx sheet) (l .inflow) (l .outflow) (l .length)))
+        let x = reachSays own in
+        let l = lateral-at a in
+        rw gained (omega (arith, a .small, abs-sum (at .gain) (ownGain x (Sheet.dx sheet)), abs-gain x (Sheet.dx sheet) (l .inflow) (l .outflow) (l .length)))
 
-    pub same-arrives : suc i < n → Arrives (Sheet.dx sheet) (at .reach) (at .bands) sum
-    same-arrives more = record {
-      lateral = rw (a .reach) (lateral (at .number) (a .known));
-      small = omega (arith, small-next, few);
-      near = a .bands .near;
-    }
+    arrives-in : {lower : Reach} {table : Bands} (number : ℕ) → number < reachCount sheet → reachSays lower ≡ reachOn sheet number → Standing sheet number table → Arrives (Sheet.dx sheet) lower table sum
+    arrives-in number h is standing = record { lateral = rw is (lateral number h); small = omega (arith, small-next, few); near = standing .near }
 
     -- which is one of the same reach
-    pub same-reach : {segment p : ℕ} {next : Cursor} → segment ≡ suc i → p ≡ suc (at .passed) → p < at .reach .segments →
-        Arrived sheet top (Sheet.dx sheet) segment (at .number) p (at .reach) (at .bands) sum next → At sheet top (suc i) next
-    same-reach e q l x =
-        let count = ap (λ (y : Sheet.Reach). y .segments) (a .reach) in
-        arrived-at x e (a .known) (omega (arith, l, count)) (omega (arith, a .place, q)) (a .reach) (a .bands) gain-next small-next
+    module _ {lower : Reach} {table : Bands} (l : at .passed + 1 < own .segments) (is : reachSays lower ≡ reachBelow sheet own at) (standing : Standing sheet (numberBelow own at) table) where
+      same-is : reachSays lower ≡ reachOn sheet (at .number)
+      same-is = rw (lt-ltb (at .passed + 1) (own .segments) l) at is ∙ a .reach
+
+      same-standing : Standing sheet (at .number) table
+      same-standing = rw (lt-ltb (at .passed + 1) (own .segments) l) at standing
+
+      pub same-arrives : Arrives (Sheet.dx sheet) lower table sum
+      same-arrives = arrives-in (at .number) (a .known) same-is same-standing
+
+      pub same-reach : {next : Cursor} → Arrived sheet top (Sheet.dx sheet) (at .number) (at .passed + 1) lower table sum next → Below sheet top n i lower table next
+      same-reach x =
+          below-next more (arrived-at x (a .known) (omega (arith, l, segments-at a)) (omega (arith, a .place)) same-is same-standing gain-next small-next)
+          (rw (x .number-is) same-standing)
 
     -- or the first of the next
-    module _ (more : suc i < n) (l : at .reach .segments ≤ at .passed + 1) where
+    module _ {lower : Reach} {table : Bands} (l : own .segments ≤ at .passed + 1) (is : reachSays lower ≡ reachBelow sheet own at) (standing : Standing sheet (numberBelow own at) table) where
       abbrev rs : List BandedReach
       rs = bandedReaches sheet
 
-      ended : suc i ≡ before rs (suc (at .number)) + 0
+      ended : suc i ≡ before rs (at .number + 1) + 0
       ended =
           let k = at .number in
           let inside : k < length rs = rw (count-reaches sheet) (a .known) in
-          let count = ap (λ (y : Sheet.Reach). y .segments) (a .reach) in
           let segments = ap (λ (y : BandedReach). y .reach .segments) (reach-no sheet k (a .known)) in
-          omega (arith, a .place, a .within, count, before-next rs k inside, segments, l)
+          rw (add-one k) (omega (arith, a .place, a .within, segments-at a, before-next rs k inside, segments, l))
 
-      there : suc (at .number) < reachCount sheet
+      there : at .number + 1 < reachCount sheet
       there =
-          let left : before rs (suc (at .number)) < total rs = rw (total-segments sheet) (omega (arith, ended, r .count)) in
-          rw (count-reaches sheet) at (before-known rs (suc (at .number)) left)
+          let left : before rs (at .number + 1) < total rs = rw (total-segments sheet) (omega (arith, ended, r .count)) in
+          rw (count-reaches sheet) at (before-known rs (at .number + 1) left)
 
-      module _ {number : ℕ} {reach : Reach} {bands : Bands} (q : number ≡ suc (at .number)) (is : reachSays reach ≡ reachOn sheet number)
-          (standing : Standing sheet (suc (at .number)) bands) where
-        pub next-arrives : Arrives (Sheet.dx sheet) reach bands sum
-        next-arrives = record {
-          lateral = rw (is, q) (lateral (suc (at .number)) there);
-          small = omega (arith, small-next, few);
-          near = standing .near;
-        }
+      next-is : reachSays lower ≡ reachOn sheet (at .number + 1)
+      next-is = rw (le-ltb (at .passed + 1) (own .segments) l) at is
 
-        pub next-reach : {segment : ℕ} {next : Cursor} → segment ≡ suc i → Arrived sheet top (Sheet.dx sheet) segment number 0 reach bands sum next →
-            At sheet top (suc i) next
-        next-reach e x = arrived-at x e (rw q there) (rw q (reach-within (suc (at .number)) there .segments .low)) (rw q ended) is (rw q standing) gain-next small-next
+      next-standing : Standing sheet (at .number + 1) table
+      next-standing = rw (add-one (at .number)) (rw (le-ltb (at .passed + 1) (own .segments) l) at standing)
+
+      pub next-arrives : Arrives (Sheet.dx sheet) lower table sum
+      next-arrives = arrives-in (at .number + 1) there next-is next-standing
+
+      pub next-reach : {next : Cursor} → Arrived sheet top (Sheet.dx sheet) (at .number + 1) 0 lower table sum next → Below sheet top n i lower table next
+      next-reach x =
+          below-next more (arrived-at x there (reach-within (at .number + 1) there .segments .low) ended next-is next-standing gain-next small-next)
+          (rw (x .number-is) next-standing)
 
   -- ---- the site
 
@@ -238,60 +258,55 @@ module _ {sheet : List ℕ} {n : ℕ} (r : Read sheet n) where
   unfolding courseFrom
   last-at top i = rw (river-length, total-segments sheet, ← r .count, add-one)
 
-  module _ {top i above : ℕ} {here below : Cursor} {site : Held.Site} (a : At sheet top i here) (b : At sheet top (belowOf n i) below)
-      (above-is : above ≡ ad (hydraulicsOf (courseFrom sheet top) (i - 1))) (above-most : above ≤ 10 ^ 12)
-      (made : siteSays site ≡ record {
-        own = reachSays (here .reach);
-        hydraulics = hydraulicsSay (here .hydraulics);
-        above = above;
-        below = ad (hydraulicsSay (below .hydraulics));
-        flow = here .flow;
-        last = eqb (i + 1) n;
-        dt = Sheet.dt sheet;
-        dx = Sheet.dx sheet;
-      }) where
-    site-same : siteSays site ≡ siteAt (courseFrom sheet top) i
-    unfolding siteAt courseFrom
-    site-same = made ∙ rw (a .reach, ← reach-at a, a .hydraulics, above-is, b .hydraulics, a .flow, last-at top i)
+  -- at the top: above the first segment "its own is used"
+  pub stands-first : {top above : ℕ} {own : Reach} {table : Bands} {at : Cursor} → At sheet top 0 own at → Standing sheet 0 table →
+      above ≡ ad (hydraulicsSay (at .hydraulics)) → Stands sheet top 0 own table at above
+  stands-first {top} {above} {own} {table} {at} a standing e =
+      let same = e ∙ ap ad (a .hydraulics) in
+      record { at = a; bands = rw (first-number a) standing; above-is = same; above-most = rw same (ad-le (fit-at a)) }
 
-    pub stood : IsSegment (courseFrom sheet top) i site
-    stood = record {
-      same = site-same;
-      fields = rw made (record {
-        ranges = rw (a .reach) (in-range (reach-within (here .number) (a .known)));
-        fit = rw (a .hydraulics) (fit-at a);
-        steps = record { time = known .dt .high; length-low = known .dx .low; length = known .dx .high };
-        above = above-most;
-        below = rw (b .hydraulics) (ad-le (fit-at b));
-      });
-    }
+  -- one turn of a descent: from what stands at segment i, the reach and the bands below, the segment below and the site
+  module _ {top i above : ℕ} {own : Reach} {table : Bands} {here : Cursor} (less : i < n) (s : Stands sheet top i own table here above) where
+    -- what is asked for them
+    pub passed-less : here .passed < own .segments
+    passed-less = omega (arith, segments-at (s .at), s .at .within)
 
-  -- where the next segment is one of the river's, the cursor below stands there
-  pub below-next : {top i : ℕ} {below : Cursor} → suc i < n → At sheet top (belowOf n i) below → At sheet top (suc i) below
-  below-next {top} {i} h b = rw (ne-eqb (i + 1) n (λ e. omega arith)) at b
+    pub lower-asks : {lower : Reach} {lowerTable : Bands} → reachSays lower ≡ reachBelow sheet own here → Standing sheet (numberBelow own here) lowerTable → {step : ℕ} → step ≡ Sheet.dx sheet →
+        Lower sheet top step n i own lower lowerTable here
+    lower-asks is standing d = record { read = r; length = d; less = less; here = s .at; reach = is; bands = standing }
 
-  -- what the next segment is to be stood at with
-  pub stands-next : {top i above : ℕ} {d : Code.Descent} → Descended sheet n top i d → suc i < n → above ≡ ad (hydraulicsSay (d .site .hydraulics)) →
-      Stands sheet n top (d .site .dt) (d .site .dx) above (d .below)
-  unfolding siteAt courseFrom
-  stands-next {top} {i} {above} {d} s h e =
-      let b = below-next h (s .below) in
-      let back : suc i - 1 ≡ i = omega arith in
-      record {
-        read = r;
-        time = ap (λ (x : Site). x .dt) (s .here .same);
-        length = ap (λ (x : Site). x .dx) (s .here .same);
-        at = own-place b;
-        less = rw (b .segment) h;
-        above-is = e ∙ rw (b .segment, back) (ap (λ (x : Site). ad (x .hydraulics)) (s .here .same));
-        above-most = rw e (ad-le (s .here .fields .fit));
-      }
+    module _ {lower : Reach} {lowerTable : Bands} {below : Cursor} (b : Below sheet top n i lower lowerTable below) where
+      fit-below : (last : Bool) → eqb (i + 1) n ≡ last → Fit (hydraulicsOf (courseFrom sheet top) (cond last i (suc i)))
+      fit-below true e = fit-at (s .at)
+      fit-below false e = fit-at (b .next (omega (arith, less, eqb-false (i + 1) n e)))
+
+      module _ {u time : ℕ} {site : Held.Site} (made : siteSays site ≡ siteFrom here own above u (eqb (i + 1) n) time (Sheet.dx sheet)) (t : time ≡ Sheet.dt sheet)
+          (under : u ≡ ad (hydraulicsSay (below .hydraulics))) where
+        site-same : siteSays site ≡ siteAt (courseFrom sheet top) i
+        unfolding siteAt courseFrom
+        site-same = made ∙ rw (s .at .reach, ← reach-at (s .at), s .at .hydraulics, s .above-is, under, b .hydraulics, s .at .flow, last-at top i, t)
+
+        pub stood : IsSegment (courseFrom sheet top) i site
+        stood = record {
+          same = site-same;
+          fields = rw (made, under, t) (record {
+            ranges = rw (s .at .reach) (in-range (reach-within (here .number) (s .at .known)));
+            fit = rw (s .at .hydraulics) (fit-at (s .at));
+            steps = record { time = known .dt .high; length-low = known .dx .low; length = known .dx .high };
+            above = s .above-most;
+            below = rw (b .hydraulics) (ad-le (fit-below (eqb (i + 1) n) refl));
+          });
+        }
+
+      -- and stands at the next segment
+      pub goes-on : {v : ℕ} → v ≡ ad (hydraulicsSay (here .hydraulics)) → i + 1 < n → Stands sheet top (i + 1) lower lowerTable below v
+      goes-on {v} e h =
+          let l : suc i < n = omega arith in
+          let back : suc i - 1 ≡ i = omega arith in
+          let same = e ∙ ap ad (s .at .hydraulics) in
+          rw (add-one i)
+          (record { at = b .next l; bands = b .bands l; above-is = rw back same; above-most = rw same (ad-le (fit-at (s .at))) })
 
 -- the segment of the sheet's course with the flow of a row
-pub on-course : {sheet : List ℕ} {n i : ℕ} {d : Code.Descent} (row : ℕ) → Descended sheet n (topOf sheet row) i d → IsSegment (courseOf sheet row) i (d .site)
-on-course {sheet} {n} {i} {d} row s = subst (λ c. IsSegment c i (d .site)) (course-same sheet row) (s .here)
-
--- one segment further
-pub gone-on : {sheet : List ℕ} {n top i : ℕ} {d next : Code.Descent} → Descended sheet n top i d → (suc i < n → Descended sheet n (d .top) (suc i) next) →
-    i + 1 < n → Descended sheet n top (i + 1) next
-gone-on {sheet} {n} {top} {i} {d} {next} s go h = rw (add-one i) (subst (λ u. Descended sheet n u (suc i) next) (s .flow) (go (omega arith)))
+pub on-course : {top i : ℕ} {site : Held.Site} (sheet : List ℕ) (row : ℕ) → top ≡ topOf sheet row → IsSegment (courseFrom sheet top) i site → IsSegment (courseOf sheet row) i site
+on-course {top} {i} {site} sheet row e s = subst (λ c. IsSegment c i site) (ap (courseFrom sheet) e ∙ course-same sheet row) s

@@ -10,9 +10,14 @@ ghost use Rattle.terms.specs.Says.{findingSays};
 ghost use Rattle.lists.specs.Lent.{entry};
 ghost use Rattle.halfstep.specs.Site.{siteSays};
 ghost use Rattle.course.specs.Segments.{siteFault, Clear, ClearFlows, ClearSite, Read};
-use descent::Descent;
+use bands::Bands;
+use descent::Cursor;
 use halfstep::Site;
+use sheet::fields::dt;
+use sheet::fields::dx;
 use sheet::fields::flow_row_count;
+use sheet::fields::reach;
+use sheet::fields::top_of;
 use terms::Finding;
 use terms::Place;
 
@@ -37,14 +42,26 @@ fn course_test(sheet: &[u8], row: u32, n: usize, number: u32) -> Finding
     requires { ⌜ Read (now sheet) n × (10 ≤ number) × Clear number n (courseOf (now sheet) row) ⌝ }
     ensures { λ r. ⌜ findingSays r ≡ testEach number segment n (λ i. siteFault number (siteAt (courseOf (entry sheet) row) i)) ⌝ }
 {
-    let mut at = Descent::start(sheet, row, n);
+    let top = top_of(sheet, row);
+    let dt = dt(sheet);
+    let dx = dx(sheet);
+    let mut own = reach(sheet, 0);
+    let mut table = Bands::first(sheet);
+    let mut here = Cursor::first(sheet, top, dx, own, table);
+    let mut above = here.ad();
     let mut i: usize = 0;
     while i < n {
-        let here = at.site;
-        if fault(number, here) {
+        let lower = here.reach_below(sheet, own);
+        let lower_table = here.bands_below(sheet, own, table);
+        let below = here.below(sheet, top, dx, n, i, own, lower, lower_table);
+        let site = here.site(own, above, below.ad(), i + 1 == n, dt, dx);
+        if fault(number, site) {
             return Finding::Fails(number, Place::Segment(i as u32 + 1));
         }
-        at = at.next(sheet, n, i);
+        above = here.ad();
+        own = lower;
+        table = lower_table;
+        here = below;
         i += 1;
     }
     Finding::Passes

@@ -21,14 +21,11 @@ returns c =
     let f = c .before .before .flow in
     let gain = back-abs (args .gain) (omega (arith, start .pre .small)) in
     record {
-      segment-is = refl;
       number-is = refl;
       passed-is = refl;
-      reach-is = refl;
-      bands-is = refl;
       gain-is = gain;
       flow-is = result (f .ok) (rw gain at (f .ensures));
-      hydraulics-is = c .hydraulics-at .ensures ∙ ap (hydraulicsAt (bandsSay (args .sheet .now) (args .bands)) (reachSays (args .reach))) (c .before .discharge .ensures);
+      hydraulics-is = c .hydraulics-at .ensures ∙ ap (hydraulicsAt (bandsSay (args .sheet .now) (args .table)) (reachSays (args .own))) (c .before .discharge .ensures);
     }
 
 pub arrive-spec : {M : Type 1} → statement M
