@@ -40,7 +40,7 @@ test number fault = cond fault (fails number nothing) passes
 abbrev pub testEach : ℕ → (ℕ → Place) → (n : ℕ) → (ℕ → Bool) → Finding
 testEach number place n fault = let i = lowest n fault in cond (ltb i n) (fails number (place (suc i))) passes
 
--- "Tests run in the order of their numbers, each over the whole river before the next", and 16 after 9: of a list of tests the first that
+-- "Tests run in the order of their numbers, each over the whole river before the next", 16 and 19 after 9: of a list of tests the first that
 -- fails decides
 abbrev pub first : List Finding → Finding
 first [] = passes

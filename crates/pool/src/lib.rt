@@ -294,7 +294,7 @@ fn pack_table_if(answer: Load, table: &mut Table, river: u32, u: u32)
     }
 }
 
-// An opening: the sheet is loaded for flow `row` and the river started with U at step 0, which is `u`. Tests 1 to 12 with 16 among them, 17, 18, 13 and
+// An opening: the sheet is loaded for flow `row` and the river started with U at step 0, which is `u`. Tests 1 to 12 with 16 and 19 among them, 17, 18, 13 and
 // 14. Of the list of reach records it is handed the length.
 pub fn open_lists(
     river: u32,

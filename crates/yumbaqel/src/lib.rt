@@ -37,7 +37,7 @@ use otis::River;
 use pool_table::Table;
 use terms::Reach;
 
-// A loading for flow `row`, 0 for the flow at the top: tests 1 to 13 with 16 among them. `loaded` is M, the print interval, the segment count,
+// A loading for flow `row`, 0 for the flow at the top: tests 1 to 13 with 16 and 19 among them. `loaded` is M, the print interval, the segment count,
 // where the rows begin on the sheet and how many there are, and the same of the gauges and of the flow rows.
 #[no_mangle]
 pub extern "C" fn yumbaqel_load(
@@ -94,7 +94,7 @@ pub extern "C" fn yumbaqel_load(
     put_load(answer, number, kind, place, loaded);
 }
 
-// An opening of river `river`, 1 to 8, in a pool: tests 1 to 12 with 16 among them, 17, 18 of the table, 13 and 14 of `u`, which is U at step 0. `loaded` is a loading's.
+// An opening of river `river`, 1 to 8, in a pool: tests 1 to 12 with 16 and 19 among them, 17, 18 of the table, 13 and 14 of `u`, which is U at step 0. `loaded` is a loading's.
 #[no_mangle]
 pub extern "C" fn yumbaqel_pool_open(
     number: &mut u32,
