@@ -39,6 +39,7 @@ static void most_off(void) { off = yumbaqel_most_off(river.done); }
 static void most_rivers(void) { found = yumbaqel_most_rivers(); }
 static void most_blocks(void) { found = yumbaqel_most_blocks(); }
 static void most_bands(void) { found = yumbaqel_most_bands(); }
+static void most_steps(void) { found = yumbaqel_most_steps(); }
 static void version(void) { found = yumbaqel_version(); }
 
 static void step(void)
@@ -144,6 +145,7 @@ int main(void)
     print_time("most_rivers", most_rivers);
     print_time("most_blocks", most_blocks);
     print_time("most_bands", most_bands);
+    print_time("most_steps", most_steps);
     print_time("version", version);
     yumbaqel_shared_lend(&shared, shared_words, shared_wide_words);
     yumbaqel_shared_lend_river(&shared, &pool_river, YUMBAQEL_MOST_SEGMENTS, pool_river_words, pool_highest_words);

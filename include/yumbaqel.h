@@ -31,7 +31,7 @@
 extern "C" {
 #endif
 
-#define YUMBAQEL_VERSION 30200           /* of this header, 3.2.0: major x 10,000 + minor x 100 + patch */
+#define YUMBAQEL_VERSION 30300           /* of this header, 3.3.0: major x 10,000 + minor x 100 + patch */
 #define YUMBAQEL_SCALE 1073741824        /* one whole, 2^30 */
 #define YUMBAQEL_HIGHEST 1000000000      /* the highest concentration, ng/L */
 #define YUMBAQEL_MOST_SEGMENTS 1024
@@ -363,6 +363,10 @@ uint32_t yumbaqel_most_blocks(void);
 /* The most bands of a reach, YUMBAQEL_MOST_BANDS. It is proved that bands, one or more, none of them out of range or reversed, pass test 19
    just where every flow from 0 to 100,000,000 is in exactly one of them. */
 uint32_t yumbaqel_most_bands(void);
+
+/* The most steps of a sheet, YUMBAQEL_MOST_STEPS. It is proved that after an accepted loading and start no step of the sheet's own river, which
+   is lent lists as loadings left them for its pair of flows and handed a U' in range and the sheet's M, is refused up to M. */
+uint32_t yumbaqel_most_steps(void);
 
 /* The library's own version. The header belongs to it where this is YUMBAQEL_VERSION. */
 uint32_t yumbaqel_version(void);

@@ -481,6 +481,7 @@ int main(int count, char **arguments)
     printf("most_rivers %llu\n", UNSIGNED(yumbaqel_most_rivers()));
     printf("most_blocks %llu\n", UNSIGNED(yumbaqel_most_blocks()));
     printf("most_bands %llu\n", UNSIGNED(yumbaqel_most_bands()));
+    printf("most_steps %llu\n", UNSIGNED(yumbaqel_most_steps()));
     for (which = 0; which < SIZE(counts); which++)
         printf("most_off %llu %llu\n", UNSIGNED(counts[which]), UNSIGNED(yumbaqel_most_off(counts[which])));
     fill();

@@ -21,8 +21,9 @@ FIGURES = ("C", "Z", "W")           # the state's lists
 WORKING = ("p", "y")
 POOL_CALLS = ("pool_open", "pool_start", "pool_step", "pool_report", "pool_search", "pool_close")
 CALLS = ("load", "start", "step", "report", "search", "upstream", "rows", *POOL_CALLS)
-READINGS = {**dict.fromkeys(("gauge", "flow", "dt", "dx", "most_rivers", "most_blocks", "most_bands", "version"),
-                            ctypes.c_uint32), "most_off": ctypes.c_uint64}      # these have a result and no answer
+READINGS = {**dict.fromkeys(("gauge", "flow", "dt", "dx", "most_rivers", "most_blocks", "most_bands", "most_steps",
+                             "version"), ctypes.c_uint32),
+            "most_off": ctypes.c_uint64}        # these have a result and no answer
 KINDS = {0: None, 1: "reach", 2: "segment", 3: "row"}
 TYPES = {1: "B", 4: "I", 8: "Q"}    # by the bytes of an entry
 GUARDS = 3                          # entries in front of a list and behind it

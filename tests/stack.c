@@ -118,6 +118,11 @@ static void most_bands(void)
     u = yumbaqel_most_bands();
 }
 
+static void most_steps(void)
+{
+    u = yumbaqel_most_steps();
+}
+
 static void version(void)
 {
     u = yumbaqel_version();
@@ -221,6 +226,7 @@ int main(void)
     measure("most_rivers", most_rivers);
     measure("most_blocks", most_blocks);
     measure("most_bands", most_bands);
+    measure("most_steps", most_steps);
     measure("version", version);
     measure("upstream", upstream);
     measure("start", start);

@@ -8,7 +8,8 @@ caller can meet it says nothing.  So this holds the sources to docs/DECISIONS.md
 - the exports, the carriers of claims and the documents' calls have no `requires` and at least one `ensures`;
 - each claim stands by itself in an `ensures` of a carrier and of an export;
 - a crate that holds a call, and that of the exports, exposes no other function with a `requires`;
-- every function that a library crate exposes has an `ensures`; those with a `requires` are the leaves of the page.
+- every function that a library crate exposes has an `ensures`; those with a `requires` are the leaves of the page;
+- every function of program `river` has an `ensures`, but `main`, which has no result and is lent nothing.
 
 Then wrong trees are made by single edits, in memory, and each of them must be refused.
 """
@@ -26,9 +27,10 @@ ROOT = Path(__file__).resolve().parent.parent
 PAGE = "docs/DECISIONS.md"
 SECTION = "## Public calls and leaves\n"
 LIBRARY = "yumbaqel"                # the crate of the exports
+PROGRAM = "river"
 SPECS = "crates/model/specs/"
 UNREADABLE = "not readable"
-LEAST = {"exports": 22, "carriers": 4, "claims": 8, "calls": 16}
+LEAST = {"exports": 23, "carriers": 5, "claims": 13, "calls": 15, "of the program": 4}
 
 Files = dict[str, str]              # texts by their paths
 
@@ -96,11 +98,13 @@ class Tree:
         self.named_calls, self.named_leaves = (listed(files[PAGE], heading) for heading in ("call", "leaf"))
         self.calls = [each for each in self.exposed if each.path in self.named_calls]
         self.leaves = [each for each in self.exposed if each.asks]
+        self.program = [each for each in self.functions if each.crate == PROGRAM and each.path != f"{PROGRAM}::main"]
         self.claims = stated_claims(files).union(*(named_claims(each, files) for each in self.carriers))
 
     def counts(self) -> dict[str, int]:
         return {"functions": len(self.functions), "exports": len(self.exports), "carriers": len(self.carriers),
-                "claims": len(self.claims), "calls": len(self.calls), "leaves": len(self.leaves)}
+                "claims": len(self.claims), "calls": len(self.calls), "leaves": len(self.leaves),
+                "of the program": len(self.program)}
 
     def faults(self) -> Iterator[str]:
         yield from self.total_faults()
@@ -130,7 +134,7 @@ class Tree:
                 yield f"{function.path} carries no claim"
 
     def exposed_faults(self) -> Iterator[str]:
-        yield from (f"{each.path} has no `ensures`" for each in self.exposed if not each.ensures)
+        yield from (f"{each.path} has no `ensures`" for each in self.exposed + self.program if not each.ensures)
         closed = {LIBRARY, *(path.split("::")[0] for path in self.named_calls)}
         found, named = {each.path for each in self.leaves}, set(self.named_leaves)
         yield from (f"{each.path} asks {each.asks[0]} in a crate that holds calls"
@@ -192,7 +196,8 @@ EXPORT, CARRIER, CALL, EXPOSED = ", an export,", ", a carrier,", ", a call,", ""
 CLOSED = "in a crate that holds calls"
 WRONG = (
     *(asking(path, CARRIER) for path in ("distance_claim::most_off", "pool_claim::most_rivers",
-                                         "search_claim::most_blocks", "bands_claim::most_bands")),
+                                         "search_claim::most_blocks", "bands_claim::most_bands",
+                                         "own_river_claim::most_steps")),
     asking("distance_claim::most_off", CARRIER, "ghost { ⊥ }"),
     asking("yumbaqel::yumbaqel_step", EXPORT),
     asking("yumbaqel::yumbaqel_load", EXPORT, "requires nothing { ⌜ ⊥ ⌝ }"),
@@ -206,6 +211,9 @@ WRONG = (
     silent("sheet::fields::flow_in_force", CALL, "fields"),
     asking("lists::least", EXPOSED),
     silent("lists::least", EXPOSED),
+    silent("river::due", EXPOSED, "main"),
+    Edit("a function of the program that says nothing", source(PROGRAM, "main"), r"\Z", "\nfn idle() {}\n",
+         "river::idle has no"),
     Edit("a leaf that there is not", PAGE, r"^(\| leaf \|[^\n]*\n[^\n]*\n)", r"\1| `lists::none` | nothing |\n",
          "lists::none, a leaf of the page, is none"),
     Edit("a leaf that is not on the page", PAGE, r"`rounding::parts`, ", "", "rounding::parts asks and is no leaf"),
@@ -220,6 +228,7 @@ WRONG = (
     without_claim("yumbaqel", "PoolSearchTold", "export"),
     without_claim("pool_claim", "Sharing", "carrier"),
     without_claim("bands_claim", "OrderFree", "carrier"),
+    without_claim("own_river_claim", "OwnRiverNear", "carrier"),
     Edit("a claim that nobody carries", f"{SPECS}Claim.antt", r"\Z", "\nabbrev pub Demand4 : Type 0\n",
          "Demand4 stands in the `ensures` of no carrier"),
     Edit("a claim in parts that nobody carries", f"{SPECS}Claim.antt", r"\Z", "\npub record Demand5 : Type 0 where\n",

@@ -114,10 +114,10 @@ def wanted_names(right: dict[str, int]) -> list[str]:
 
 
 def called_numbers(right: dict[str, int]) -> list[str]:
-    """The calls that are lent nothing, as the recorder has them, and their results: four of these are constants too."""
+    """The calls that are lent nothing, as the recorder has them, and their results: five of these are constants too."""
     lines = []
     for name, constant in (("version", "VERSION"), ("most_rivers", "MOST_RIVERS"), ("most_blocks", "BLOCKS"),
-                           ("most_bands", "MOST_BANDS")):
+                           ("most_bands", "MOST_BANDS"), ("most_steps", "MOST_STEPS")):
         lines += [f" call yumbaqel_{name}", f"{name} {right[constant]}"]
     for steps in (0, 1, MOST_STEPS, sheets.HIGHEST_FIELD):
         lines += [f" call yumbaqel_most_off steps {steps}", f"most_off {steps} {exact.ALLOWED * steps}"]

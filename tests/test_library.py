@@ -198,13 +198,14 @@ def lookup(library: Library, rng: random.Random, tally: Tally) -> None:
 
 
 def numbers(library: Library, rng: random.Random, tally: Tally) -> None:
-    """The numbers that carry the claims: the distance that figures are held to, after any count of steps; three limits."""
+    """The numbers that carry the claims: the distance that figures are held to, after any count of steps; limits."""
     caller = Caller(library, rng, tally)
     for steps in (0, 1, 100, MOST_STEPS, HIGHEST_FIELD, rng.randint(0, HIGHEST_FIELD)):
         caller.reading("most_off", exact.ALLOWED * steps, U32(steps))
     caller.reading("most_rivers", MOST_RIVERS)
     caller.reading("most_blocks", MOST_BLOCKS)
     caller.reading("most_bands", MOST_BANDS)
+    caller.reading("most_steps", MOST_STEPS)
 
 
 def cases(rng: random.Random) -> Iterator[sheets.Case]:
@@ -294,7 +295,7 @@ GROUPS = (
         sheets.band_rivers(), sheets.rivers(rng, 30, 400, BANDS), sheets.large_rivers(rng, 2, 70, BANDS))),
           {"load": {ACCEPTED, (13, None)}, "flow": {ACCEPTED}}),
     Group("numbers that carry the claims", lambda rng: iter((numbers,)),
-          dict.fromkeys(("most_off", "most_rivers", "most_blocks", "most_bands"), {ACCEPTED})),
+          dict.fromkeys(("most_off", "most_rivers", "most_blocks", "most_bands", "most_steps"), {ACCEPTED})),
     Group("lookups of U", lambda rng: (lookup for _ in range(400)),
           {"upstream": {ACCEPTED, (3, None), (8, "row")}}),
     Group("the sheets' own rivers",

@@ -18,7 +18,7 @@ import load_cases
 import sample_fractions
 
 ROOT = Path(__file__).resolve().parent.parent
-LEAST = 11                          # files: eight proofs, what `cases` is given and must print, what `samples` must print
+LEAST = 10                          # files: seven proofs, what `cases` is given and must print, what `samples` must print
 
 
 def write_proofs(folder: Path) -> None:

@@ -109,18 +109,24 @@ module _ (sheet : List ℕ) where
         let all = all-pass (take 2 (later sheet (segmentCount sheet))) (both .1) in
         (record { passed = both .0; count = q }, rw q (clear-next (clear-next clear-start (all .0)) (all .1 .0)))
 
+    -- and what all of them leave
+    pub behind-12 : first (riverTests sheet) ≡ passes → Read sheet n × ClearFlows 13 n sheet
+    behind-12 e =
+        let both = first-both (sheetTests sheet) (later sheet (segmentCount sheet)) (rw (river-tests (segmentCount sheet) refl) at e) in
+        let all = all-pass (later sheet (segmentCount sheet)) (both .1) in
+        (record { passed = both .0; count = q }, rw q (clear-next (clear-next (clear-next clear-start (all .0)) (all .1 .0)) (all .1 .1 .0)))
+
 module _ (sheet : List ℕ) (row records : ℕ) (x : Columns) where
   -- what the tests leave where all pass
   pub fit : first (riverTests sheet) ≡ passes → first (listTests sheet row records x) ≡ passes → Fit sheet row x
   unfolding listTests
   fit river lists =
       let n = segmentCount sheet in
-      let both = first-both (sheetTests sheet) (later sheet n) (rw (river-tests sheet n refl) at river) in
-      let all = all-pass (later sheet n) (both .1) in
+      let behind = behind-12 sheet {n = n} refl river in
       let clear = neither _ _ (neither _ _ (test-clear 13 _ (all-pass (listTests sheet row records x) lists .0)) .0) in
       record {
-        read = record { passed = both .0; count = refl };
-        clear = clear-next (clear-next (clear-next clear-start (all .0)) (all .1 .0)) (all .1 .1 .0) .each row (ltb-false _ _ (clear .0));
+        read = behind .0;
+        clear = behind .1 .each row (ltb-false _ _ (clear .0));
         long = columns-first n x [] (all-long n (columnLists x) (clear .1));
       }
 

@@ -22,7 +22,7 @@ use Rattle.exact_laws.proofs.Step.{step-close}
 use Rattle.loading_laws.proofs.AsLoaded.{pairs-as-loaded, same-starts}
 use Rattle.model.proofs.Calls.{lent-state}
 use Rattle.distance_claim.proofs.Tests as Tests
-use Rattle.distance_claim.proofs.ReadBack.{read-back}
+use Rattle.model.proofs.ReadBack.{read-back}
 
 six-more : (n : ℕ) → 6 * n + 6 ≡ 6 * suc n
 six-more n = omega arith

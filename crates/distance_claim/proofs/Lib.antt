@@ -1,5 +1,4 @@
 pub mod Tests
-pub mod ReadBack
 pub mod Distance
 pub mod Unique
 pub mod Reports

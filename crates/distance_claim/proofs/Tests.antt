@@ -2,33 +2,22 @@
 use mathlib.Core.Path.{_≡_}
 use mathlib.Core.Bool.{Bool, false, _||_}
 use mathlib.Core.List.{List}
-use Prim.Native.Nat.{ℕ, zero, suc, _+_, _≤_, _<_}
+use Prim.Native.Nat.{ℕ, _≤_}
 use native.Mathlib.Omega.{arith}
-use borrow.Author.Tests.{ltb-false}
-use Rattle.lists.specs.Lists.{tab}
 use Rattle.lists.proofs.Shorter.{neither}
 use Rattle.sweep_laws.specs.Accepted.{Sums, Accepted}
-use Rattle.sweep_laws.proofs.Accepted.{All}
+use Rattle.sweep_laws.proofs.Accepted.{All, all-tab, sums}
 use Rattle.model.specs.Ranges.{highest, concentration, outside}
-use Rattle.model.specs.HalfStep.{Numbers, Segment}
+use Rattle.model.specs.HalfStep.{Segment}
 use Rattle.model.specs.State.{NumberSet, Columns, segmentAt, segmentsOf, pairAt, pairsOf, State}
 use Rattle.model.specs.Refusals.{passes, first, segment}
-use Rattle.model.specs.Load.{sumFault}
-use Rattle.model.specs.Calls.{Working, numbersFault, segmentFault, startFault, stateFault, oldFault, heldFault, startTests, stepTests}
+use Rattle.model.specs.Calls.{Working, segmentFault, startFault, stateFault, oldFault, heldFault, startTests, stepTests}
 use Rattle.model.proofs.Ranges.{inside}
 use Rattle.model.proofs.Refusals.{all-pass, test-clear, each-clear}
 
 -- a concentration that is in its range
 at-most : (x : ℕ) → outside concentration x ≡ false → x ≤ highest
 at-most x e = inside concentration x e .1
-
--- numbers that a call accepts, of either set
-sums : (isLast : Bool) (n : Numbers) → numbersFault isLast n ≡ false → Sums n
-unfolding numbersFault sumFault
-sums isLast n e =
-    let most = neither _ _ (neither _ _ e .0) in
-    let tv = neither _ _ (most .0) in
-    record { t = ltb-false _ _ (tv .0); v = ltb-false _ _ (tv .1); h = ltb-false _ _ (most .1) }
 
 -- a segment that a start, a step or a report accepts
 record Sound (x : Segment) : Type 0 where
@@ -45,11 +34,6 @@ sound isLast x e =
     let c = neither _ _ (b .0) in
     let d = neither _ _ (c .0) in
     record { numbers = sums isLast (x .numbers) (d .0); cl = at-most _ (c .1); cb = at-most _ (b .1); start = at-most _ (a .1) }
-
--- what holds of every entry of a table holds of the table
-all-tab : {A : Type 0} {P : A → Type 0} (j n : ℕ) (f : ℕ → A) → ((i : ℕ) → j ≤ i → i < j + n → P (f i)) → All P (tab j n f)
-all-tab j zero f holds = All.none
-all-tab j (suc n) f holds = All.cons (holds j (omega arith) (omega arith)) (all-tab (suc j) n f (λ i a b. holds i (omega arith) (omega arith)))
 
 module _ (n : ℕ) (columns : Columns) (state : State) where
   sound-at : (i : ℕ) → startFault n columns i ≡ false → Sound (segmentAt columns i)

@@ -11,6 +11,7 @@ use Rattle.model.specs.Sheet.{segmentCount}
 use Rattle.model.specs.Flow.{courseOf, flowInForce, reachAt}
 use Rattle.model.specs.HalfStep.{siteAt, numbers, Segment, loadedSegment}
 use Rattle.model.specs.State.{NumberSet, numbersAt, Columns, segmentAt, segmentsOf, pairAt, pairsOf, loadedSegments, writeSegments}
+use Rattle.model.specs.Calls.{startFigures}
 use Rattle.model.specs.Runs.{LoadedFor, SetFor, PairAsLoaded, exactStart, sheetPair, sheetPairs}
 
 -- ---- written
@@ -87,8 +88,16 @@ module _ (sheet : List ℕ) (r : ℕ) where
   unfolding loadedSegment reachAt courseOf
   same-kd i = refl
 
+  -- start figures, those of the exact river
   pub same-starts : map exactStart (loadedSegments sheet r) ≡ map exactStart (loadedSegments sheet 0)
   unfolding loadedSegment reachAt courseOf
   same-starts =
       map-tab exactStart (loadedSegment (courseOf sheet r)) 0 (segmentCount sheet)
       ∙ sym (map-tab exactStart (loadedSegment (courseOf sheet 0)) 0 (segmentCount sheet))
+
+  -- those of a state
+  pub same-start-figures : map startFigures (loadedSegments sheet r) ≡ map startFigures (loadedSegments sheet 0)
+  unfolding loadedSegment reachAt courseOf
+  same-start-figures =
+      map-tab startFigures (loadedSegment (courseOf sheet r)) 0 (segmentCount sheet)
+      ∙ sym (map-tab startFigures (loadedSegment (courseOf sheet 0)) 0 (segmentCount sheet))

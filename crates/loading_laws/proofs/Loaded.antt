@@ -47,6 +47,17 @@ segment-passes course n i e sums fit = rw (sums, last-g course n i e, le-ltb mos
 
 -- ---- the river
 
+-- the numbers of every segment passed 12, for every flow of the sheet
+pub sums-pass : (sheet : List ℕ) (r : ℕ) → first (riverTests sheet) ≡ passes → r ≤ flowRowCount sheet → (i : ℕ) → i < segmentCount sheet →
+    sumFault (numbers (siteAt (courseOf sheet r) i)) ≡ false
+unfolding courseTests
+sums-pass sheet r front known =
+    let n = segmentCount sheet in
+    let passed = first-both (sheetTests sheet) (courseTests n (flowRowCount sheet) (courseOf sheet)) front .1 in
+    let flows = all-pass (courseTests n (flowRowCount sheet) (courseOf sheet)) passed .1 .1 .0 in
+    each-clear 12 segment n (λ i. sumFault (numbers (siteAt (courseOf sheet r) i)))
+    (flows-clear (flowRowCount sheet) (λ r. testEach 12 segment n (λ i. sumFault (numbers (siteAt (courseOf sheet r) i)))) flows r known)
+
 module _ (sheet : List ℕ) (r records : ℕ) (columns : Columns) (front : first (riverTests sheet) ≡ passes)
     (lists : first (listTests sheet r records columns) ≡ passes) where
   -- the flow is one of the sheet's
@@ -58,16 +69,6 @@ module _ (sheet : List ℕ) (r records : ℕ) (columns : Columns) (front : first
   pub loads : loadAnswer sheet r records columns ≡ accepted (loaded sheet)
   unfolding loadAnswer loadTests
   loads = outcome-passes (loadTests sheet r records columns) (loaded sheet) (first-rest (riverTests sheet) (listTests sheet r records columns) front ∙ lists)
-
-  -- the numbers of every segment passed 12
-  pub sums-pass : (i : ℕ) → i < segmentCount sheet → sumFault (numbers (siteAt (courseOf sheet r) i)) ≡ false
-  unfolding courseTests
-  sums-pass =
-      let n = segmentCount sheet in
-      let passed = first-both (sheetTests sheet) (courseTests n (flowRowCount sheet) (courseOf sheet)) front .1 in
-      let flows = all-pass (courseTests n (flowRowCount sheet) (courseOf sheet)) passed .1 .1 .0 in
-      each-clear 12 segment n (λ i. sumFault (numbers (siteAt (courseOf sheet r) i)))
-      (flows-clear (flowRowCount sheet) (λ r. testEach 12 segment n (λ i. sumFault (numbers (siteAt (courseOf sheet r) i)))) flows r known)
 
   -- the lists that the loading leaves
   abbrev pub leftColumns : Columns
@@ -83,7 +84,7 @@ module _ (sheet : List ℕ) (r records : ℕ) (columns : Columns) (front : first
   start-clear i h =
       let ok = right sheet (first-both (sheetTests sheet) _ front .0) in
       rw (segment-as-loaded left-loaded i h)
-      (segment-passes (courseOf sheet r) (segmentCount sheet) i (course-length sheet r) (sums-pass i h) (ok .fit r i h))
+      (segment-passes (courseOf sheet r) (segmentCount sheet) i (course-length sheet r) (sums-pass sheet r front known i h) (ok .fit r i h))
 
   -- 13: they have an entry for each segment
   left-long : anyShorter (segmentCount sheet) (columnLists leftColumns) ≡ false

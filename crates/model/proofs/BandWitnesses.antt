@@ -19,12 +19,11 @@ use Rattle.model.specs.Refusals.{accepted, passes, first}
 use Rattle.model.specs.Load.{flowRowFault, testFlows, walk, startsLate, rowFault, gaugeFault, flowFault, faceFault, sumFault, sheetTests, courseTests, riverTests, listTests, loadTests, loaded, loadAnswer, loadColumns}
 use Rattle.model.specs.Highest.{blocksFault}
 use Rattle.model.specs.Calls.{oldFault, numbersFault, riverFault, segmentFault, figureFault, startFault, stateFault, heldFault, startTests, startLeft, stepLeft, result, stepTests, reportTests, step, report, reported}
-use Rattle.model.specs.Runs.{alone, accepts, after, run, AsLoaded, PairAsLoaded, Fed}
+use Rattle.model.specs.Runs.{alone, accepts, after, run, AllAccepted, AsLoaded, PairAsLoaded, Fed}
 use Rattle.model.specs.Claim.{Holds, Demand3}
 use Rattle.model.specs.BandClaim.{InOne, Among, SameBands, Reordered}
 use Rattle.model.specs.Bench.{bytes, allBytes, zeros, noState, noWork}
 use Rattle.model.specs.BandBench.{fieldsWith, river, oneReach, rising, low, high, valley, widening}
-use Rattle.model.specs.Witnesses.{AllAccepted}
 use Rattle.model.specs.BandWitnesses.{bandsBy, turned, altered, BandsMet, CoveringBench, ReorderedBench, wideningFor, wideningStart, wideningSteps, wideningCalls, WideningMet}
 
 -- of two or of one

@@ -3,6 +3,7 @@ pub mod Refusals
 pub mod Clamp
 pub mod Search
 pub mod Calls
+pub mod ReadBack
 pub mod FlowRows
 pub mod Along
 pub mod Bands
@@ -12,5 +13,7 @@ pub mod LateralBench
 pub mod PoolBench
 pub mod SearchBench
 pub mod BandBench
+pub mod OwnRiverBench
 pub mod Witnesses
 pub mod BandWitnesses
+pub mod OwnRiverWitnesses

@@ -27,14 +27,14 @@ use Rattle.model.specs.Load.{flowRowFault, testFlows, walk, startsLate, 
 use Rattle.model.specs.Highest.{blockHighest, blocksFault}
 use Rattle.model.specs.Calls.{oldFault, numbersFault, riverFault, segmentFault, figureFault, startFault, stateFault, heldFault, startTests, startLeft, stepLeft, result, stepTests, reportTests, start, step, report, Reported, reported}
 use Rattle.model.specs.Search.{searchTests, Above, Finds, Searches, SearchAnswer, Clear}
-use Rattle.model.specs.Runs.{LoneCall, alone, accepts, after, run, leftSince, AsLoaded, PairAsLoaded, Fed, events, Exact, noRiver, ExactRun}
+use Rattle.model.specs.Runs.{LoneCall, alone, accepts, after, run, AllAccepted, leftSince, AsLoaded, PairAsLoaded, Fed, events, Exact, noRiver, ExactRun}
 use Rattle.model.specs.Claim.{SameFigures, SamePast, Near, Holds, Demand3}
 use Rattle.model.specs.Pool.{vacant, Pool, openSegments, roomFault, tableFault, sharedFault, openTests, openAnswer, openColumns}
 use Rattle.model.specs.PoolClaim.{NoneOpen, vacated}
 use Rattle.model.specs.Bench.{bytes, allBytes, zeros, noState, noWork, listed, listedColumns, listedState}
 use Rattle.model.specs.FlowBench.{snow, melting}
 use Rattle.model.specs.PoolBench.{openAt, tableOf, overlapping, from10, poolWith}
-use Rattle.model.specs.Witnesses.{allClosed, meltingFor, meltingStart, meltingStep, meltingSteps, meltingCalls, AllAccepted, refusedCalls, AllRefused, Demand3Met, LentBench, LoadedListsMet, LeftBench, FiguresBench, OpenedListsMet, OpensAloneBench, kd2, exactly, NearBench, halves, SamePastBench, PairBench, SearchAnswersBench, TellsBench, SearchMet}
+use Rattle.model.specs.Witnesses.{allClosed, meltingFor, meltingStart, meltingStep, meltingSteps, meltingCalls, refusedCalls, AllRefused, Demand3Met, LentBench, LoadedListsMet, LeftBench, FiguresBench, OpenedListsMet, OpensAloneBench, kd2, exactly, NearBench, halves, SamePastBench, PairBench, SearchAnswersBench, TellsBench, SearchMet}
 use Rattle.model.proofs.Refusals.{outcome-passes}
 use Rattle.model.proofs.Search.{finds-none, finds-some}
 

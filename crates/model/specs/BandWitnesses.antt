@@ -11,12 +11,11 @@ use Rattle.model.specs.State.{Columns, loadedSegments, figuresOf}
 use Rattle.model.specs.Refusals.{passes, first}
 use Rattle.model.specs.Load.{riverTests, loadColumns}
 use Rattle.model.specs.Calls.{start, step, report}
-use Rattle.model.specs.Runs.{LoneCall, alone, run, Fed, events, Exact, noRiver, ExactRun}
+use Rattle.model.specs.Runs.{LoneCall, alone, run, AllAccepted, Fed, events, Exact, noRiver, ExactRun}
 use Rattle.model.specs.Claim.{Near, Demand3}
 use Rattle.model.specs.BandClaim.{InOne, Covering, BandsCover, SameBands, Reordered, OrderFree}
 use Rattle.model.specs.Bench.{zeros, noState, noWork}
 use Rattle.model.specs.BandBench.{low, high, valley, widening}
-use Rattle.model.specs.Witnesses.{AllAccepted}
 
 -- ---- bands
 

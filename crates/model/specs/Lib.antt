@@ -20,11 +20,15 @@ pub mod PoolRuns
 pub mod PoolClaim
 pub mod SearchClaim
 pub mod BandClaim
+pub mod OwnRiver
+pub mod OwnRiverClaim
 pub mod Bench
 pub mod FlowBench
 pub mod LateralBench
 pub mod PoolBench
 pub mod SearchBench
 pub mod BandBench
+pub mod OwnRiverBench
 pub mod Witnesses
 pub mod BandWitnesses
+pub mod OwnRiverWitnesses

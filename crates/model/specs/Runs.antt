@@ -40,6 +40,11 @@ unfoldable pub run : State → List LoneCall → State
 run state [] = state
 run state (call ∷ calls) = run (after state call) calls
 
+-- every call of a list is accepted, in the state that those before it leave
+abbrev pub AllAccepted : State → List LoneCall → Type 0
+AllAccepted state [] = Unit {0}
+AllAccepted state (call ∷ calls) = T (accepts state call) × AllAccepted (after state call) calls
+
 -- the highest figures of a river of this many segments
 pub record HighestFigures : Type 0 where
   pub count : ℕ

@@ -18,7 +18,7 @@ use Rattle.model.specs.Refusals.{nothing, Outcome, accepted, refused, pa
 use Rattle.model.specs.Load.{loaded, loadAnswer, loadColumns}
 use Rattle.model.specs.Calls.{Working, Reported, Call, start, step, report, result}
 use Rattle.model.specs.Search.{SearchAnswer, Tells}
-use Rattle.model.specs.Runs.{LoneCall, alone, accepts, after, run, HighestFigures, leftSince, AsLoaded, PairAsLoaded, LentFrom, Fed, events}
+use Rattle.model.specs.Runs.{LoneCall, alone, accepts, after, run, AllAccepted, HighestFigures, leftSince, AsLoaded, PairAsLoaded, LentFrom, Fed, events}
 use Rattle.model.specs.Runs.{Exact, noRiver, ExactRun}
 use Rattle.model.specs.Claim.{SamePast, Near, FiguresOf, Holds, Demand3, LeftFor, LoadedLists}
 use Rattle.model.specs.Pool.{isOpen, vacant, slotOf, Pool, stateOf, poolResult, PoolSearchAnswer, openAnswer, openColumns, closeFinding}
@@ -49,11 +49,6 @@ meltingSteps = alone 2 (meltingStep 0 1) ∷ alone 2 (meltingStep 1 1) ∷ alone
 
 unfoldable pub meltingCalls : List LoneCall
 meltingCalls = meltingStart ∷ meltingSteps
-
--- every call of a list is accepted, in the state that those before it leave
-abbrev pub AllAccepted : State → List LoneCall → Type 0
-AllAccepted state [] = Unit {0}
-AllAccepted state (call ∷ calls) = T (accepts state call) × AllAccepted (after state call) calls
 
 -- a start, a step and a report that are lent nothing
 unfoldable pub refusedCalls : List LoneCall

@@ -76,7 +76,7 @@ flushed {o} {r} {b} written e = record {
 }
 
 -- a buffer that can hold any line has room for one
-room-fits : {o from : Output} {b : List ℕ} → Room o b from → longest ≤ length b → from .used + longest ≤ length b
+pub room-fits : {o from : Output} {b : List ℕ} → Room o b from → longest ≤ length b → from .used + longest ≤ length b
 room-fits {o} {from} {b} x l = cases (leb (o .used + longest) (length b)) refl
   where
     cases : (fits : Bool) → leb (o .used + longest) (length b) ≡ fits → from .used + longest ≤ length b

@@ -1,2 +1,4 @@
 pub mod Text
+pub mod Listing
 pub mod Outcomes
+pub mod Bench

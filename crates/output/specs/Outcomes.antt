@@ -1,13 +1,14 @@
 -- What is put into the buffer, which write is due of it, and what becomes of it. No contract can say that a write was made: its failure is
 -- the system's choice.
 use mathlib.Core.Path.{_≡_}
-use mathlib.Core.Bool.{true, cond, _||_}
-use mathlib.Core.List.{List}
+use mathlib.Core.Bool.{true, false, cond, _||_}
+use mathlib.Core.List.{List, [], _∷_, _++_}
 use Prim.Native.Nat.{ℕ, _+_, _-_, _<_, _≤_, min}
-use lib.Dec.{ltb}
+use lib.Dec.{leb, ltb}
 use lib.IntN.{pos}
-use lib.ListN.{length}
+use lib.ListN.{length, take}
 use lib.Seq.{sets}
+use Rattle.output.specs.Listing.{text}
 use Rattle.output.specs.declared.Output.{Output}
 use Rattle.output.specs.declared.Write.{Write}
 
@@ -43,3 +44,33 @@ pub record PutLine (text : List ℕ) (o : Output) (buffer : List ℕ) (r : Outpu
   pub room : Room o buffer from
   pub put : Put text from buffer r later
   pub whole : longest ≤ length buffer → r .used ≡ from .used + length text
+
+-- the bytes of the write that is due
+unfoldable pub bytesDue : Output → (buffer : List ℕ) → List ℕ
+bytesDue o buffer = take (due o (length buffer) .bytes) buffer
+
+-- those of the write that is due before a line is put: none where it fits
+unfoldable pub handedOver : Output → (buffer : List ℕ) → List ℕ
+handedOver o buffer = cond (leb (o .used + longest) (length buffer)) [] (bytesDue o buffer)
+
+-- lines put one behind another, and the bytes of the writes that were due on the way
+pub data Puts : (lines : List (List ℕ)) → (written : List ℕ) → Output → List ℕ → Output → List ℕ → Type 0 where
+  none : {o : Output} {buffer : List ℕ} → Puts [] [] o buffer o buffer
+  more : {line written : List ℕ} {lines : List (List ℕ)} {o m r : Output} {buffer between later : List ℕ} →
+      PutLine line o buffer m between → Puts lines written m between r later →
+      Puts (line ∷ lines) (handedOver o buffer ++ written) o buffer r later
+
+-- the same, whatever bytes were due
+pub record Lines (lines : List (List ℕ)) (o : Output) (buffer : List ℕ) (r : Output) (later : List ℕ) : Type 0 where
+  pub written : List ℕ
+  pub puts : Puts lines written o buffer r later
+
+-- an output of which nothing is used, and no write has failed
+abbrev pub fresh : Output
+fresh = record { used = 0; failed = false }
+
+-- lines put from the start: where no write failed, the bytes of the writes due on the way and of the one due in the end are the lines' text
+pub record Listed (lines : List (List ℕ)) (buffer : List ℕ) (r : Output) (later : List ℕ) : Type 0 where
+  pub written : List ℕ
+  pub puts : Puts lines written fresh buffer r later
+  pub text-is : longest ≤ length buffer → r .failed ≡ false → written ++ bytesDue r later ≡ text lines

@@ -1,49 +1,17 @@
 -- The lists of a river that has them alone keep their lengths through its calls, and one call more behind a list of calls.
-use mathlib.Core.Path.{_≡_, refl, sym, ap, _∙_}
+use mathlib.Core.Path.{_≡_, refl, sym, _∙_}
 use mathlib.Core.List.{List, [], _∷_, _++_, map, append-nil}
-use Prim.Native.Nat.{ℕ, suc}
+use Prim.Native.Nat.{ℕ}
 use native.Mathlib.Omega.{arith}
 use lib.ListN.{length, drop-of-length-le, length-map}
 use Rattle.lists.specs.Lists.{over}
 use Rattle.lists.proofs.Tab.{length-tab}
 use Rattle.lists.proofs.Over.{length-over}
-use Rattle.model.specs.Equations.{Figures, Pair}
-use Rattle.model.specs.Sweep.{Row, rows, Passed, Above, under, pass, down, up, finish, downward, stepped}
+use Rattle.model.specs.Equations.{Figures}
 use Rattle.model.specs.State.{segmentsOf, pairsOf, State, figuresAt, figuresOf, writeFigures}
 use Rattle.model.specs.Calls.{startFigures, startLeft, stepLeft, Call, start, step, report, callLeft}
 use Rattle.model.specs.Runs.{LoneCall, after, run, OwnLists}
-
--- ---- a step has figures for each segment
-
--- a row for each segment
-length-rows : (above : ℕ) (xs : List Pair) (fs : List Figures) → length fs ≡ length xs → length (rows above xs fs) ≡ length xs
-length-rows above [] fs e = refl
-length-rows above (x ∷ xs) [] e = absurd (omega arith)
-length-rows above (x ∷ xs) (f ∷ fs) e = ap suc (length-rows (f .c) xs fs (omega arith))
-
--- p and y of each row
-length-down : (above : Above) (rs : List Row) → length (down above rs) ≡ length rs
-length-down above [] = refl
-length-down above (r ∷ rs) = ap suc (length-down (under (pass above r)) rs)
-
--- a channel figure of each
-length-up : (ds : List Passed) → length (up ds) ≡ length ds
-length-up [] = refl
-length-up (d ∷ ds) = ap suc (length-up ds)
-
--- new figures of each segment
-length-finish : (xs : List Pair) (fs : List Figures) (cs : List ℕ) → length fs ≡ length xs → length cs ≡ length xs → length (finish xs fs cs) ≡ length xs
-length-finish [] fs cs e q = refl
-length-finish (x ∷ xs) [] cs e q = absurd (omega arith)
-length-finish (x ∷ xs) (f ∷ fs) [] e q = absurd (omega arith)
-length-finish (x ∷ xs) (f ∷ fs) (c ∷ cs) e q = ap suc (length-finish xs fs cs (omega arith) (omega arith))
-
--- those of a step
-pub length-stepped : (u u′ : ℕ) (xs : List Pair) (fs : List Figures) → length fs ≡ length xs → length (stepped u u′ xs fs) ≡ length xs
-unfolding stepped downward
-length-stepped u u′ xs fs e =
-    length-finish xs fs (up (downward u u′ xs fs)) e
-    (length-up (downward u u′ xs fs) ∙ length-down (Above.top u′) (rows u xs fs) ∙ length-rows u xs fs e)
+use Rattle.sweep_laws.proofs.Lengths.{length-stepped}
 
 -- ---- figures written over lists of as many entries
 

@@ -20,7 +20,7 @@ use Rattle.model.specs.Highest.{blockCount, blockHighest, highestOf, blocksFaul
 use Rattle.model.specs.Calls.{riverFault, startFigures, startTests, startLeft, Working, stepTests, stepLeft}
 use Rattle.model.specs.Search.{searchTests, SearchAnswer, Tells}
 use Rattle.model.proofs.Refusals.{all-pass, test-clear}
-use Rattle.pool_claim.proofs.Lengths.{length-stepped}
+use Rattle.sweep_laws.proofs.Lengths.{length-stepped}
 use Rattle.search_claim.proofs.Tells.{TrueHighest, tells}
 
 -- lists as a start or a step leaves them

@@ -1,21 +1,48 @@
 -- A segment that a step accepts: the bounds of its right sides, quotients and new figures, and its fit row.
+use mathlib.Core.Path.{_≡_}
+use mathlib.Core.Bool.{Bool, false}
 use mathlib.Core.List.{List, [], _∷_}
-use Prim.Native.Nat.{ℕ, _+_, _-_, _*_, _<_, _≤_, zero-le}
-use native.Mathlib.Nat.{mul-le-mul-left, mul-le-mul-right, le-of-mul-le-mul-left, min-le-right}
+use mathlib.Core.Logic.{⊎-elim}
+use Prim.Native.Nat.{ℕ, zero, suc, _+_, _-_, _*_, _<_, _≤_, zero-le}
+use native.Mathlib.Nat.{eq-or-lt-of-le, mul-le-mul-left, mul-le-mul-right, le-of-mul-le-mul-left, min-le-right}
 use native.Mathlib.Omega.{arith}
+use borrow.Author.Tests.{ltb-false}
+use Rattle.lists.specs.Lists.{tab}
+use Rattle.lists.proofs.Shorter.{neither}
 use Rattle.rounding.specs.Nearest.{S}
 use Rattle.rounding.proofs.Laws.{Rounds, rounds, by, nearest-le}
 use Rattle.model.specs.Ranges.{highest}
 use Rattle.model.specs.HalfStep.{Numbers}
 use Rattle.model.specs.Equations.{Figures, Pair, sumT, sumV, channelRight, storageRight, sedimentRight}
 use Rattle.model.specs.Sweep.{P, N, storageQuotient, sedimentQuotient, F, R, rowOf, rows, below, clamp, newStorage, newSediment, newFigures, finish, stepped}
-use Rattle.sweep_laws.specs.Accepted.{Accepted, AtMost}
+use Rattle.model.specs.Load.{sumFault}
+use Rattle.model.specs.Calls.{numbersFault}
+use Rattle.sweep_laws.specs.Accepted.{Sums, Accepted, AtMost}
 use Rattle.sweep_laws.specs.Stable.{Fit}
 
 -- every entry of a list has the property
 pub data All {A : Type 0} (P : A → Type 0) : List A → Type 0 where
   none : All P []
   cons : {x : A} {xs : List A} → P x → All P xs → All P (x ∷ xs)
+
+-- what holds of every entry of a table holds of the table
+pub all-tab : {A : Type 0} {P : A → Type 0} (j n : ℕ) (f : ℕ → A) → ((i : ℕ) → j ≤ i → i < j + n → P (f i)) → All P (tab j n f)
+all-tab j zero f holds = none
+all-tab j (suc n) f holds = cons (holds j (omega arith) (omega arith)) (all-tab (suc j) n f (λ i a b. holds i (omega arith) (omega arith)))
+
+-- and what holds of the table holds of every entry
+pub all-at : {A : Type 0} {P : A → Type 0} (j n : ℕ) (f : ℕ → A) → All P (tab j n f) → (i : ℕ) → j ≤ i → i < j + n → P (f i)
+all-at j zero f all i a b = absurd (omega arith)
+all-at {P = P} j (suc n) f (cons p ps) i a b =
+    ⊎-elim (λ e. rw (← e) p) (λ h. all-at (suc j) n f ps i (omega arith) (omega arith)) (eq-or-lt-of-le a)
+
+-- numbers that a call accepts, of either set
+pub sums : (isLast : Bool) (n : Numbers) → numbersFault isLast n ≡ false → Sums n
+unfolding numbersFault sumFault
+sums isLast n e =
+    let most = neither _ _ (neither _ _ e .0) in
+    let tv = neither _ _ (most .0) in
+    record { t = ltb-false _ _ (tv .0); v = ltb-false _ _ (tv .1); h = ltb-false _ _ (most .1) }
 
 -- ---- the three right sides
 

@@ -1,5 +1,5 @@
-// The library for C: every public call of the documents, exported under its plain name, and three numbers that carry the claims over every list of
-// calls, so that the library is not built without them. `include/yumbaqel.h` declares all of them.
+// The library for C: every public call of the documents, exported under its plain name, and five numbers that carry the claims, so that the library is
+// not built without them. `include/yumbaqel.h` declares all of them.
 //
 // What a call hands out comes first: `number` is 0 or the number of the refusal, `kind` and `place` are its place, and then its values.
 // An accepted call writes all of them and the first entries of its lists; a refused one writes those three numbers and nothing else.
@@ -8,7 +8,7 @@ ghost use mathlib.Core.List.{map};
 ghost use Prim.Native.Nat.{_*_};
 ghost use lib.ListN.{length};
 ghost use Rattle.model.specs.Sheet.{dt, dx, rowStarts, rowConcentrations, gaugeCountAt, recordField};
-ghost use Rattle.model.specs.Ranges.{gaugeSection, bandSection, mostSegments};
+ghost use Rattle.model.specs.Ranges.{gaugeSection, bandSection, mostSegments, mostSteps};
 ghost use Rattle.model.specs.Flow.{flowInForce};
 ghost use Rattle.model.specs.Load.{loadAnswer, loadColumns, loadRecords};
 ghost use Rattle.model.specs.Pool.{poolResult, PoolSearchAnswer, closeFinding, closedTable, openAnswer, openColumns, openRecords, poolOpen, openHighest};
@@ -20,6 +20,7 @@ ghost use Rattle.model.specs.Claim.{Demand3, LoadedLists};
 ghost use Rattle.model.specs.PoolClaim.{Sharing, OpenedLists};
 ghost use Rattle.model.specs.SearchClaim.{SearchTold, PoolSearchTold};
 ghost use Rattle.model.specs.BandClaim.{BandsCover, OrderFree};
+ghost use Rattle.model.specs.OwnRiverClaim.{OwnRiverSteps, OwnRiverOnwards, OwnRiverNear, RowsUpstream, OwnCallsExist};
 ghost use Rattle.terms.specs.Says.{reachSays};
 ghost use Rattle.lists.specs.Lent.{entry, exit};
 ghost use Rattle.terms.specs.Lent.{set, columns, state, working, left, tableIn, pool};
@@ -656,10 +657,24 @@ pub extern "C" fn yumbaqel_most_bands() -> u32
     bands_claim::most_bands()
 }
 
-// The version of this interface, 3.2.0: the first number times 10,000, the second times 100 and the third.
+// The most steps of a sheet, with the claims that after an accepted loading and start no step of the sheet's own river is refused up to its M, that the
+// steps leave what the definitions say, and that demand 3 holds of them.
+#[no_mangle]
+pub extern "C" fn yumbaqel_most_steps() -> u32
+    ensures { λ r. ⌜ r ≡ mostSteps ⌝ }
+    ensures { λ r. ⌜ OwnRiverSteps ⌝ }
+    ensures { λ r. ⌜ OwnRiverOnwards ⌝ }
+    ensures { λ r. ⌜ OwnRiverNear ⌝ }
+    ensures { λ r. ⌜ RowsUpstream ⌝ }
+    ensures { λ r. ⌜ OwnCallsExist ⌝ }
+{
+    own_river_claim::most_steps()
+}
+
+// The version of this interface, 3.3.0: the first number times 10,000, the second times 100 and the third.
 #[no_mangle]
 pub extern "C" fn yumbaqel_version() -> u32
-    ensures { λ r. ⌜ r ≡ 30200 ⌝ }
+    ensures { λ r. ⌜ r ≡ 30300 ⌝ }
 {
-    30200
+    30300
 }

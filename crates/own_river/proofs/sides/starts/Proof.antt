@@ -1,0 +1,12 @@
+-- `starts` meets its contract.
+use borrow.Author.Needs.{needs}
+use Rattle.own_river.specs.Sides.{sidesOf}
+use Rattle.own_river.proofs.sides.starts.Statement.{statement}
+use Rattle.own_river.proofs.sides.starts.Tie as tie
+
+returns : tie.Need-returns
+unfolding sidesOf
+returns c = c .part .ensures
+
+pub starts-spec : {M : Type 1} → statement M
+starts-spec = tie.close (tie.spec (λ c κs. search needs) returns)

@@ -1,0 +1,4 @@
+pub mod Calls
+pub mod Claim
+pub mod Exist
+pub mod Near
