@@ -16,7 +16,7 @@ use Rattle.output.specs.Listing.{gaugeLine, stepLines, linesAt}
 use Rattle.output.specs.Outcomes.{Lines}
 use Rattle.output.specs.declared.Output.{Output}
 use Rattle.output.proofs.Lines.{lines-none}
-use Rattle.listing.specs.Shown.{Shown, Within, lineAt}
+use Rattle.listing.specs.Shown.{Shown, HasSegment, lineAt}
 use Rattle.own_river_laws.proofs.Sheets.{gauge-first, gauge-last}
 
 -- gauge j, as the sheet has it
@@ -63,7 +63,7 @@ module _ (sheet kd channel storage sediment : List ℕ) (x : Shown sheet kd chan
   gauge-most : gaugeAt sheet j ≤ segmentCount sheet
   gauge-most = rw at-is at (gauge-last sheet (x .passed) j h)
 
-  pub gauge-within : Within (gaugeAt sheet j) kd channel storage sediment
+  pub gauge-within : HasSegment (gaugeAt sheet j) kd channel storage sediment
   gauge-within =
       let from = gauge-from in
       let most = gauge-most in

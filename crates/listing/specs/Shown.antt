@@ -19,7 +19,7 @@ pub record Shown (sheet kd channel storage sediment : List ℕ) : Type 0 where
   pub figures : LongFigures (segmentCount sheet) channel storage sediment
 
 -- segment `number`, which counts from 1, is one of those that the lists have
-pub record Within (number : ℕ) (kd channel storage sediment : List ℕ) : Type 0 where
+pub record HasSegment (number : ℕ) (kd channel storage sediment : List ℕ) : Type 0 where
   pub from : 1 ≤ number
   pub kd-long : number ≤ length kd
   pub figures : LongFigures number channel storage sediment

@@ -3,7 +3,7 @@ ghost use Rattle.lists.specs.Lent.{entry, exit};
 ghost use Rattle.terms.specs.Lent.{state};
 ghost use Rattle.output.specs.Listing.{stepLines, linesAt};
 ghost use Rattle.output.specs.Outcomes.{PutLine, Lines};
-ghost use Rattle.listing.specs.Shown.{Shown, Within, lineAt};
+ghost use Rattle.listing.specs.Shown.{Shown, HasSegment, lineAt};
 use otis::River;
 use output::Output;
 use sheet::fields::gauge;
@@ -21,7 +21,7 @@ fn put_gauge(
     out: Output,
     buffer: &mut [u8],
 ) -> Output
-    requires { ⌜ Within segment (now kd) (now channel) (now storage) (now sediment) ⌝ }
+    requires { ⌜ HasSegment segment (now kd) (now channel) (now storage) (now sediment) ⌝ }
     ensures { λ r. ⌜ PutLine (lineAt step segment (entry kd) (entry channel) (entry storage) (entry sediment)) out (entry buffer) r (exit buffer) ⌝ }
 {
     let i = segment as usize - 1;

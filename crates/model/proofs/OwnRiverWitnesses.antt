@@ -134,8 +134,8 @@ worked-out =
     two-clear (suc (suc i)) h = absurd (omega arith)
 
 -- U is in range up to the M that the loading tells
-told-range : UpstreamInRange surge (loaded melting .steps)
-told-range = rw (worked-out .told) surge-range
+told-range : (from : ℕ) → UpstreamInRange surge from (loaded melting .steps)
+told-range from j b h = surge-range j (omega (arith, worked-out .told))
 
 -- the records that the loading is lent
 abbrev oneRecord : List Reach
@@ -148,13 +148,13 @@ own-river-met =
     let few : length surgeSteps ≤ loaded melting .steps = omega (arith, w .all, w .told) in
     record {
       loads = w .loads;
-      inRange = told-range;
+      inRange = told-range 0;
       starting = w .starting;
       taken = w .taken;
       own = w .own;
       all = w .all ∙ sym (w .told);
       says = λ claim.
-          let x = claim melting 0 oneRecord (zeros 2) (loaded melting) (w .loads) surge told-range (noState 2) 2 (meltingFor 0) (0 ∷ []) (w .starting) (w .taken) surgeSteps (w .own) few in
+          let x = claim melting 0 oneRecord (zeros 2) (loaded melting) (w .loads) surge (told-range 0) (noState 2) 2 (meltingFor 0) (0 ∷ []) (w .starting) (w .taken) surgeSteps (w .own) few in
           let state = run (noState 2) surgeCalls in
           let count : state .steps ≡ 4 = x .1 .steps ∙ w .count in
           let fifth : StepLent melting (state .steps) (meltingFor 2 .numbers) (meltingFor 2) (0 ∷ []) (noWork 2) = rw count (w .fifth) in
@@ -165,16 +165,20 @@ own-river-met =
       held = w .held;
       late = w .late;
       saysOnwards = λ claim.
-          let x = claim melting 0 oneRecord (zeros 2) (loaded melting) (w .loads) lateState (w .long) (w .figures) (w .held) surge told-range lateSteps (w .late) (omega (arith, w .two-more, w .told)) in
-          (x .accepted, x .leaves ∙ w .lateEnd, x .fed);
+          let x = claim melting 0 oneRecord (zeros 2) (loaded melting) (w .loads) lateState (w .long) (w .figures) (w .held) surge (told-range 3) lateSteps (w .late) (omega (arith, w .two-more, w .told)) in
+          let state = run lateState lateSteps in
+          let end = x .0 .leaves ∙ w .lateEnd in
+          let fifth : StepLent melting (state .steps) (meltingFor 2 .numbers) (meltingFor 2) (0 ∷ []) (noWork 2) = rw end (w .fifth) in
+          let done = x .1 (omega (arith, w .two-more, w .told)) (meltingFor 2 .numbers) (meltingFor 2) (0 ∷ []) (noWork 2) 6000 fifth (w .beyond) in
+          (x .0 .accepted, end, x .0 .fed, rw (w .segments, w .M) at done);
       saysNear = λ claim.
-          let x = claim melting 0 oneRecord (zeros 2) (loaded melting) (w .loads) surge told-range 2 (omega (arith, w .told)) in
+          let x = claim melting 0 oneRecord (zeros 2) (loaded melting) (w .loads) surge (told-range 0) 2 (omega (arith, w .told)) in
           let q = x .exists .0 in
           let ran = x .exists .1 in
           (q, rw (w .fed) at ran, rw (w .two) at (x .near q ran));
       saysRows = λ claim. sym (w .rows) ∙ claim thaw 0 oneRecord (zeros 2) (loaded thaw) (w .loadsThaw) 2 .0 ∙ ap accepted (w .rowsAt2);
       saysExist = λ claim.
-          let x = claim melting 0 oneRecord (zeros 2) (loaded melting) (w .loads) surge (told-range 0 (omega arith)) 4 in
+          let x = claim melting 0 oneRecord (zeros 2) (loaded melting) (w .loads) surge (told-range 0 0 (omega arith) (omega arith)) 4 in
           (x .4, x .5 .2, x .5 .3);
     }
 

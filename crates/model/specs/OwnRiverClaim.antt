@@ -18,9 +18,9 @@ use Rattle.model.specs.Runs.{LoneCall, alone, accepts, after, run, AllAc
 use Rattle.model.specs.Claim.{SameFigures, SamePast, Near, Holds}
 use Rattle.model.specs.OwnRiver.{rowsUpstream, ahead, ownState, Alike, ownEvents}
 
--- U at the steps of a river is in range
-abbrev pub UpstreamInRange : (u : ℕ → ℕ) → (M : ℕ) → Type 0
-UpstreamInRange u M = (j : ℕ) → j ≤ M → outside concentration (u j) ≡ false
+-- U at these steps of a river is in range
+abbrev pub UpstreamInRange : (u : ℕ → ℕ) → (from M : ℕ) → Type 0
+UpstreamInRange u from M = (j : ℕ) → from ≤ j → j ≤ M → outside concentration (u j) ≡ false
 
 -- what a step call from count n is lent: lists as long as 13 wants them, which hold what loadings of the sheet leave for its pair
 pub record StepLent (sheet : List ℕ) (n : ℕ) (old : NumberSet) (new : Columns) (highest : List ℕ) (working : Working) : Type 0 where
@@ -37,7 +37,7 @@ pub data OwnCalls (u : ℕ → ℕ) (sheet : List ℕ) : (n : ℕ) → List Lone
       StepLent sheet n old new highest working → OwnCalls u sheet (suc n) calls →
       OwnCalls u sheet n (alone (segmentCount sheet) (step old new highest working (u (suc n)) (stepsM sheet)) ∷ calls)
 
--- calls from this state go the sheet's own river: none is refused, they leave the state as many steps on, and each is lent what demand 3 asks
+-- step calls of the sheet's own river from this state: none is refused, they leave the state as many steps on, and each is lent what demand 3 asks
 pub record OwnRun (u : ℕ → ℕ) (sheet : List ℕ) (state : State) (calls : List LoneCall) : Type 0 where
   pub accepted : AllAccepted state calls
   pub leaves : run state calls ≡ ahead u sheet state (length calls)
@@ -56,7 +56,7 @@ abbrev pub OwnRiverSteps : Type 0
 OwnRiverSteps =
     (sheet : List ℕ) (r : ℕ) (records : List Reach) (columns : Columns) (v : Loaded) →
     loadAnswer sheet r (length records) columns ≡ accepted v →
-    (u : ℕ → ℕ) → UpstreamInRange u (v .steps) → (before : State) (n : ℕ) (lent : Columns) (highest : List ℕ) →
+    (u : ℕ → ℕ) → UpstreamInRange u 0 (v .steps) → (before : State) (n : ℕ) (lent : Columns) (highest : List ℕ) →
     let first = alone n (start lent highest (u 0)) in
     AsLoaded sheet n lent → T (accepts before first) → (calls : List LoneCall) → OwnCalls u sheet 0 calls → length calls ≤ v .steps →
     OwnRun u sheet (after before first) calls
@@ -64,21 +64,24 @@ OwnRiverSteps =
     × Holds sheet before (first ∷ calls)
     × (length calls ≡ v .steps → Done sheet (run before (first ∷ calls)))
 
--- The same from any state whose lists pass 13 and whose figures, U and count pass 14.
+-- From any state whose lists pass 13 and whose figures, U and count pass 14 none is refused either, they leave the state as many steps on, and the call
+-- behind the last is refused 15; of the exact river nothing is said.
 abbrev pub OwnRiverOnwards : Type 0
 OwnRiverOnwards =
     (sheet : List ℕ) (r : ℕ) (records : List Reach) (columns : Columns) (v : Loaded) →
     loadAnswer sheet r (length records) columns ≡ accepted v →
     (state : State) → anyShorter (segmentCount sheet) (stateLists state) ≡ false →
     ((i : ℕ) → i < segmentCount sheet → figureFault (figuresAt state i) ≡ false) → heldFault state ≡ false →
-    (u : ℕ → ℕ) → UpstreamInRange u (v .steps) → (calls : List LoneCall) → OwnCalls u sheet (state .steps) calls →
-    state .steps + length calls ≤ v .steps → OwnRun u sheet state calls
+    (u : ℕ → ℕ) → UpstreamInRange u (suc (state .steps)) (v .steps) → (calls : List LoneCall) → OwnCalls u sheet (state .steps) calls →
+    state .steps + length calls ≤ v .steps →
+    OwnRun u sheet state calls × (state .steps + length calls ≡ v .steps → Done sheet (run state calls))
 
 -- demand 3 of the sheet's own river at step k
 pub record OwnHolds (u : ℕ → ℕ) (sheet : List ℕ) (k : ℕ) : Type 0 where
   pub exists : (q : Exact) × ExactRun sheet noRiver (ownEvents u k) q
   pub unique : (q r : Exact) → ExactRun sheet noRiver (ownEvents u k) q → ExactRun sheet noRiver (ownEvents u k) r →
       (SameFigures (q .now) (r .now)) × (SamePast (q .past) (r .past))
+  pub counted : (q : Exact) → ExactRun sheet noRiver (ownEvents u k) q → (ownState u sheet k .steps ≡ k) × (q .n ≡ k)
   pub near : (q : Exact) → ExactRun sheet noRiver (ownEvents u k) q →
       Near (6 * k) (loadedSegments sheet 0) (figuresOf (segmentCount sheet) (ownState u sheet k)) (q .now)
 
@@ -87,7 +90,7 @@ abbrev pub OwnRiverNear : Type 0
 OwnRiverNear =
     (sheet : List ℕ) (r : ℕ) (records : List Reach) (columns : Columns) (v : Loaded) →
     loadAnswer sheet r (length records) columns ≡ accepted v →
-    (u : ℕ → ℕ) → UpstreamInRange u (v .steps) → (k : ℕ) → k ≤ v .steps → OwnHolds u sheet k
+    (u : ℕ → ℕ) → UpstreamInRange u 0 (v .steps) → (k : ℕ) → k ≤ v .steps → OwnHolds u sheet k
 
 -- Of an accepted sheet the call for U at a step gives the rows' U, and it is in range.
 abbrev pub RowsUpstream : Type 0

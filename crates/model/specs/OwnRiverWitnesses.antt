@@ -24,9 +24,11 @@ use Rattle.model.specs.Witnesses.{meltingFor, refusedCalls}
 
 -- ---- the calls: on the sheet `melting`, whose flow changes at steps 1 and 3, with a U that is another at each step
 
+-- U at step j
 unfoldable pub surge : ℕ → ℕ
 surge j = 1000 * suc j
 
+-- a start with U at step 0
 unfoldable pub surgeStart : LoneCall
 surgeStart = alone 2 (start (meltingFor 0) (0 ∷ []) 1000)
 
@@ -41,6 +43,7 @@ lateSteps = alone 2 (surgeStep 1 2 4000) ∷ alone 2 (surgeStep 2 2 5000) ∷ []
 unfoldable pub surgeSteps : List LoneCall
 surgeSteps = alone 2 (surgeStep 0 1 2000) ∷ alone 2 (surgeStep 1 1 3000) ∷ lateSteps
 
+-- the start and all four steps
 unfoldable pub surgeCalls : List LoneCall
 surgeCalls = surgeStart ∷ surgeSteps
 
@@ -60,9 +63,10 @@ channelAlone c c′ = record { c = c; z = 0; w = 0 } ∷ record { c = c′; z = 
 
 -- ---- the premises are met, and the claims say this
 
+-- premises of each claim, and what it gives of them
 pub record OwnRiverMet : Type 0 where
   pub loads : loadAnswer melting 0 1 (zeros 2) ≡ accepted (loaded melting)
-  pub inRange : UpstreamInRange surge (loaded melting .steps)
+  pub inRange : UpstreamInRange surge 0 (loaded melting .steps)
   pub starting : AsLoaded melting 2 (meltingFor 0)
   pub taken : T (accepts (noState 2) surgeStart)
   pub own : OwnCalls surge melting 0 surgeSteps
@@ -83,6 +87,7 @@ pub record OwnRiverMet : Type 0 where
       × (run lateState lateSteps
       ≡ record { channel = 375667 ∷ 988778 ∷ []; storage = 3000000 ∷ 500000 ∷ []; sediment = 700000 ∷ 900000 ∷ []; upstream = 5000; steps = 4 })
       × Fed melting lateState lateSteps
+      × (result 2 (run lateState lateSteps) (surgeStep 2 2 6000) .answer ≡ refused 15 nothing)
   -- an exact river that is fed a start and two steps is near the figures at step 2
   pub saysNear : OwnRiverNear →
       (q : Exact) × ExactRun melting noRiver (started 1000 ∷ moved 2000 ∷ moved 3000 ∷ []) q

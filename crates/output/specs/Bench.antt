@@ -1,4 +1,4 @@
--- The listing in bytes: the document's own, and the sheet of a river whose rows, gauges, Kd and interval all tell.
+-- The document's listing in bytes, and a sheet whose listing rests on rows, gauges, Kd and interval.
 use mathlib.Core.List.{List, [], _∷_, _++_}
 use Prim.Native.Nat.{ℕ}
 use lib.ListN.{replicate}

@@ -1,4 +1,4 @@
--- The next step of the sheet's own river: what the sweep is lent for it, what it leaves, and that the river stands as before it.
+-- The next step of the sheet's own river: what the sweep is lent for it, what it leaves, and that the river is ready for the next.
 use mathlib.Core.Path.{_≡_, refl, sym, ap, _∙_}
 use mathlib.Core.Bool.{Bool, true, false}
 use mathlib.Core.List.{List, map}
@@ -32,8 +32,8 @@ use Rattle.own_river_laws.proofs.Ahead.{step-length, starts-length}
 use Rattle.own_river_laws.proofs.Standing.{Standing, in-range, stands-at, stands-written, step-stands}
 use Rattle.terms.specs.Lent.{LongFigures}
 use Rattle.sweep.specs.Step as Sweep
-use Rattle.own_river.specs.Sides.{width, Sides, sidesOf, taken, kept, takenWhere, keptWhere, sidesFor, SidesAre}
-use Rattle.own_river.specs.Stands.{OfSheet, InForce, InRange, Begun, Stands, Stepped}
+use Rattle.own_river.specs.Sides.{width, Sides, sidesOf, filled, kept, filledWhere, keptWhere, sidesFor, SidesAre}
+use Rattle.own_river.specs.Ready.{OfSheet, InForce, InRange, Begun, Ready, Stepped}
 use Rattle.own_river.proofs.Parts.{long-old, long-new}
 
 -- ---- flows
@@ -46,9 +46,9 @@ same-or-other {A} a b same other = go (eqb a b) refl
     go true e = same e (eqb-true a b e)
     go false e = other e
 
--- a set that is taken off the sheet is the flow's
-taken-loaded : (sheet : List ℕ) (r n : ℕ) (before : Columns) → n ≡ segmentCount sheet → LoadedFor sheet r n (writeSegments (loadedSegments sheet r) before)
-taken-loaded sheet r n before e = record { count = e; segments = rw e (segments-written (loadedSegment (courseOf sheet r)) (segmentCount sheet) before) }
+-- a set that is filled off the sheet is the flow's
+filled-loaded : (sheet : List ℕ) (r n : ℕ) (before : Columns) → n ≡ segmentCount sheet → LoadedFor sheet r n (writeSegments (loadedSegments sheet r) before)
+filled-loaded sheet r n before e = record { count = e; segments = rw e (segments-written (loadedSegment (courseOf sheet r)) (segmentCount sheet) before) }
 
 module _ (sheet : List ℕ) (n steps : ℕ) (count : n ≡ segmentCount sheet) (sides sides₁ : List ℕ) (force : InForce sheet n steps sides)
     (held : SidesAre (sidesFor sheet steps (sidesOf sides)) sides sides₁) where
@@ -58,7 +58,7 @@ module _ (sheet : List ℕ) (n steps : ℕ) (count : n ≡ segmentCount sheet) (
       rw (held .sides) (
       same-or-other (flowInForce sheet steps) (flowInForce sheet (suc steps))
       (λ e q. rw e (record { before = force .old; after = rw q at (force .new) }))
-      (λ e. rw e (record { before = force .old; after = taken-loaded sheet (flowInForce sheet (suc steps)) n (sidesOf sides .new) count })))
+      (λ e. rw e (record { before = force .old; after = filled-loaded sheet (flowInForce sheet (suc steps)) n (sidesOf sides .new) count })))
 
   -- behind it both sides hold the set of the flow in force there
   pub force-after : (sides₂ : List ℕ) → SidesAre (keptWhere (flowInForce sheet steps) (flowInForce sheet (suc steps)) (sidesOf sides₁)) sides₁ sides₂ →
@@ -98,40 +98,40 @@ uncounted x = record { channel = x .channel; storage = x .storage; sediment = x 
 
 -- the flows of the step, by their numbers as they were read
 module _ (sheet : List ℕ) (steps held flow : ℕ) (list list′ : List ℕ) (e : held ≡ flowInForce sheet steps) (f : flow ≡ flowInForce sheet (steps + 1)) where
-  pub for-step : SidesAre (takenWhere held flow sheet (sidesOf list)) list list′ → SidesAre (sidesFor sheet steps (sidesOf list)) list list′
+  pub for-step : SidesAre (filledWhere held flow sheet (sidesOf list)) list list′ → SidesAre (sidesFor sheet steps (sidesOf list)) list list′
   for-step h = rw (e, f, add-one steps) at h
 
   pub behind-step : SidesAre (keptWhere held flow (sidesOf list)) list list′ →
       SidesAre (keptWhere (flowInForce sheet steps) (flowInForce sheet (suc steps)) (sidesOf list)) list list′
   behind-step h = rw (e, f, add-one steps) at h
 
-module _ (sheet : List ℕ) (n : ℕ) (sides sides₁ : List ℕ) (state : State) (working : Working) (u′ : ℕ) (stands : Stands sheet n sides state working)
+module _ (sheet : List ℕ) (n : ℕ) (sides sides₁ : List ℕ) (state : State) (working : Working) (u′ : ℕ) (ready : Ready sheet n sides state working)
     (held : SidesAre (sidesFor sheet (state .steps) (sidesOf sides)) sides sides₁) (most : u′ ≤ highest) where
   lent : PairAsLoaded sheet (state .steps) n (sidesOf sides₁ .old) (sidesOf sides₁ .new)
-  lent = pair-lent sheet n (state .steps) (stands .of-sheet .count) sides sides₁ (stands .in-force) held
+  lent = pair-lent sheet n (state .steps) (ready .of-sheet .count) sides sides₁ (ready .in-force) held
 
   -- what the sweep asks
   pub sweep-ready : Sweep.Ready n (sidesOf sides₁ .old) (sidesOf sides₁ .new) (uncounted state) working u′
   unfolding figuresAt
   sweep-ready =
-      let wide : n ≤ width sides₁ = rw (held .long) (stands .in-force .wide) in
+      let wide : n ≤ width sides₁ = rw (held .long) (ready .in-force .wide) in
       let long = long-new sides₁ n wide in
       record {
         pairs = record {
-          few = rw (stands .of-sheet .count) (most-segments sheet (stands .of-sheet .passed));
+          few = rw (ready .of-sheet .count) (most-segments sheet (ready .of-sheet .passed));
           old-set = long-old sides₁ n wide;
           new-set = long .numbers;
           cl = long .cl;
           cb = long .cb;
         };
-        figures = stands .in-range .long;
-        p-long = stands .p-long;
-        y-long = stands .y-long;
+        figures = ready .in-range .long;
+        p-long = ready .p-long;
+        y-long = ready .y-long;
         accepted = λ i h.
-            let l : i < segmentCount sheet = rw (stands .of-sheet .count) at h in
-            rw (pair-as-loaded (sidesOf sides₁ .old) lent i l) (pair-accepted sheet (stands .of-sheet .passed) (state .steps) i l);
-        most = stands .in-range .most;
-        most-u = stands .in-range .upstream;
+            let l : i < segmentCount sheet = rw (ready .of-sheet .count) at h in
+            rw (pair-as-loaded (sidesOf sides₁ .old) lent i l) (pair-accepted sheet (ready .of-sheet .passed) (state .steps) i l);
+        most = ready .in-range .most;
+        most-u = ready .in-range .upstream;
         most-u′ = most;
       }
 
@@ -147,18 +147,18 @@ module _ (sheet : List ℕ) (n : ℕ) (sides sides₁ : List ℕ) (state : State
       let s = swept .state-after in
       let d = swept .working-after in
       let is : record { channel = c; storage = z; sediment = w; upstream = u′; steps = state .steps + 1 } ≡ ownStep sheet u′ state =
-      rw (s .of-channel, s .of-storage, s .of-sediment, pairs, stands .of-sheet .count, add-one (state .steps)) in
+      rw (s .of-channel, s .of-storage, s .of-sediment, pairs, ready .of-sheet .count, add-one (state .steps)) in
       record {
         state-is = is;
         sides-are = record { sides = rw (← held .sides) (after .sides); long = after .long ∙ held .long };
         working-is = rw (d .of-p, d .of-y, held .sides);
-        stands = record {
-          of-sheet = stands .of-sheet;
-          in-force = rw (add-one (state .steps)) (force-after sheet n (state .steps) (stands .of-sheet .count) sides sides₁ (stands .in-force) held sides₂ after);
-          in-range = rw is (ranging sheet n (ownStep sheet u′ state) (stands .of-sheet .count)
-              (step-stands sheet (stands .of-sheet .passed) state (standing sheet n state (stands .of-sheet .count) (stands .in-range)) u′ (in-range u′ most)));
-          p-long = omega (arith, ap length (d .of-p), over-long (map (λ x. x .p) (downward (state .upstream) u′ (pairsOf n (sidesOf sides₁ .old) (sidesOf sides₁ .new)) (figuresOf n state))) (working .p), stands .p-long);
-          y-long = omega (arith, ap length (d .of-y), over-long (map (λ x. x .y) (downward (state .upstream) u′ (pairsOf n (sidesOf sides₁ .old) (sidesOf sides₁ .new)) (figuresOf n state))) (working .y), stands .y-long);
+        ready = record {
+          of-sheet = ready .of-sheet;
+          in-force = rw (add-one (state .steps)) (force-after sheet n (state .steps) (ready .of-sheet .count) sides sides₁ (ready .in-force) held sides₂ after);
+          in-range = rw is (ranging sheet n (ownStep sheet u′ state) (ready .of-sheet .count)
+              (step-stands sheet (ready .of-sheet .passed) state (standing sheet n state (ready .of-sheet .count) (ready .in-range)) u′ (in-range u′ most)));
+          p-long = omega (arith, ap length (d .of-p), over-long (map (λ x. x .p) (downward (state .upstream) u′ (pairsOf n (sidesOf sides₁ .old) (sidesOf sides₁ .new)) (figuresOf n state))) (working .p), ready .p-long);
+          y-long = omega (arith, ap length (d .of-y), over-long (map (λ x. x .y) (downward (state .upstream) u′ (pairsOf n (sidesOf sides₁ .old) (sidesOf sides₁ .new)) (figuresOf n state))) (working .y), ready .y-long);
         };
       }
 
@@ -174,21 +174,21 @@ pub record SameLengths (s t : State) (v w : Working) : Type 0 where
 
 -- a step leaves them
 pub step-lengths : {sheet : List ℕ} {n : ℕ} {sides sides′ : List ℕ} {state state′ : State} {working working′ : Working} {u′ : ℕ} →
-    Stands sheet n sides state working → Stepped sheet n sides state working u′ sides′ state′ working′ → SameLengths state state′ working working′
+    Ready sheet n sides state working → Stepped sheet n sides state working u′ sides′ state′ working′ → SameLengths state state′ working working′
 unfolding ownStep writeFigures stepLeft
-step-lengths {sheet} {n} {sides} {state = state} {working = working} {u′ = u′} stands step = record {
+step-lengths {sheet} {n} {sides} {state = state} {working = working} {u′ = u′} ready step = record {
   channel = ap (λ (s : State). length (s .channel)) (step .state-is) ∙ written (λ x. x .c) (state .channel) (rw (← count) (long .channel));
   storage = ap (λ (s : State). length (s .storage)) (step .state-is) ∙ written (λ x. x .z) (state .storage) (rw (← count) (long .storage));
   sediment = ap (λ (s : State). length (s .sediment)) (step .state-is) ∙ written (λ x. x .w) (state .sediment) (rw (← count) (long .sediment));
-  p = ap (λ (w : Working). length (w .p)) (step .working-is) ∙ passed (λ x. x .p) (working .p) (stands .p-long);
-  y = ap (λ (w : Working). length (w .y)) (step .working-is) ∙ passed (λ x. x .y) (working .y) (stands .y-long);
+  p = ap (λ (w : Working). length (w .p)) (step .working-is) ∙ passed (λ x. x .p) (working .p) (ready .p-long);
+  y = ap (λ (w : Working). length (w .y)) (step .working-is) ∙ passed (λ x. x .y) (working .y) (ready .y-long);
 }
   where
     count : n ≡ segmentCount sheet
-    count = stands .of-sheet .count
+    count = ready .of-sheet .count
 
     long : LongFigures n (state .channel) (state .storage) (state .sediment)
-    long = stands .in-range .long
+    long = ready .in-range .long
 
     new : List Figures
     new = stepped (state .upstream) u′ (sheetPairs sheet (state .steps)) (figuresOf (segmentCount sheet) state)
@@ -228,8 +228,8 @@ starts sheet r n columns loaded part same =
     one-start sheet r i = refl
 
 -- the flow at step 0, by its number as it was read
-pub first-side : (sheet : List ℕ) (flow : ℕ) (list list′ : List ℕ) → flow ≡ flowInForce sheet 0 → SidesAre (taken sheet flow (sidesOf list)) list list′ →
-    SidesAre (taken sheet (flowInForce sheet 0) (sidesOf list)) list list′
+pub first-side : (sheet : List ℕ) (flow : ℕ) (list list′ : List ℕ) → flow ≡ flowInForce sheet 0 → SidesAre (filled sheet flow (sidesOf list)) list list′ →
+    SidesAre (filled sheet (flowInForce sheet 0) (sidesOf list)) list list′
 first-side sheet flow list list′ e h = rw e at h
 
 -- what the copies read is as long as the river
@@ -241,9 +241,9 @@ copied n to e h = rw e at h
 
 module _ (sheet : List ℕ) (n : ℕ) (sides sides₁ sides₂ : List ℕ) (state : State) (u : ℕ) (river : OfSheet sheet n) (wide : n ≤ width sides)
     (long : LongFigures n (state .channel) (state .storage) (state .sediment)) (most : u ≤ highest)
-    (took : SidesAre (taken sheet (flowInForce sheet 0) (sidesOf sides)) sides sides₁) (kept₂ : SidesAre (kept (sidesOf sides₁)) sides₁ sides₂) where
+    (took : SidesAre (filled sheet (flowInForce sheet 0) (sidesOf sides)) sides sides₁) (kept₂ : SidesAre (kept (sidesOf sides₁)) sides₁ sides₂) where
   begun-loaded : LoadedFor sheet (flowInForce sheet 0) n (sidesOf sides₂ .new)
-  begun-loaded = rw (kept₂ .sides, took .sides) (taken-loaded sheet (flowInForce sheet 0) n (sidesOf sides .new) (river .count))
+  begun-loaded = rw (kept₂ .sides, took .sides) (filled-loaded sheet (flowInForce sheet 0) n (sidesOf sides .new) (river .count))
 
   pub begun : (c z w : List ℕ) → let figures = tab 0 n (λ i. getD (sidesOf sides₂ .new .start) i 0) in
       c ≡ over figures (state .channel) → z ≡ over figures (state .storage) → w ≡ over figures (state .sediment) →
@@ -286,15 +286,15 @@ module _ {n : ℕ} {old old′ : NumberSet} {new new′ : Columns} {state : Stat
   stepped-with r = rw (e, f) at r
 
 -- where the flow stays
-pub stays : (held flow : ℕ) (sheet list : List ℕ) → held ≡ flow → SidesAre (takenWhere held flow sheet (sidesOf list)) list list
+pub stays : (held flow : ℕ) (sheet list : List ℕ) → held ≡ flow → SidesAre (filledWhere held flow sheet (sidesOf list)) list list
 stays held flow sheet list e = record { sides = rw (eq-eqb held flow e); long = refl }
 
 pub stays-kept : (held flow : ℕ) (list : List ℕ) → held ≡ flow → SidesAre (keptWhere held flow (sidesOf list)) list list
 stays-kept held flow list e = record { sides = rw (eq-eqb held flow e); long = refl }
 
 -- where it does not
-pub changes : (held flow : ℕ) (sheet list list′ : List ℕ) → (held ≡ flow → ⊥) → SidesAre (taken sheet flow (sidesOf list)) list list′ →
-    SidesAre (takenWhere held flow sheet (sidesOf list)) list list′
+pub changes : (held flow : ℕ) (sheet list list′ : List ℕ) → (held ≡ flow → ⊥) → SidesAre (filled sheet flow (sidesOf list)) list list′ →
+    SidesAre (filledWhere held flow sheet (sidesOf list)) list list′
 changes held flow sheet list list′ e h = record { sides = h .sides ∙ rw (ne-eqb held flow e); long = h .long }
 
 pub changes-kept : (held flow : ℕ) (list list′ : List ℕ) → (held ≡ flow → ⊥) → SidesAre (kept (sidesOf list)) list list′ → SidesAre (keptWhere held flow (sidesOf list)) list list′

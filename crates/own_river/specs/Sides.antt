@@ -74,23 +74,24 @@ abbrev pub segmentSays : Numbers → Reach → Segment
 segmentSays x own = record { numbers = numbersSay x; cl = own .cl; cb = own .cb; kd = own .kd; start = own .start }
 
 -- flow r's set and the lists that every flow shares on the new side, as a loading gives them
-abbrev pub taken : List ℕ → (r : ℕ) → Sides → Sides
-taken sheet r x = record { old = x .old; new = writeSegments (loadedSegments sheet r) (x .new); rest = x .rest }
+abbrev pub filled : List ℕ → (r : ℕ) → Sides → Sides
+filled sheet r x = record { old = x .old; new = writeSegments (loadedSegments sheet r) (x .new); rest = x .rest }
 
 -- the new side's set on the old side too
 abbrev pub kept : Sides → Sides
 kept x = record { old = x .new .numbers; new = x .new; rest = x .rest }
 
--- where another flow than the one held comes into force
-abbrev pub takenWhere : (held flow : ℕ) → List ℕ → Sides → Sides
-takenWhere held flow sheet x = cond (eqb held flow) x (taken sheet flow x)
+-- the flow's set filled in, where it is another than the one held
+abbrev pub filledWhere : (held flow : ℕ) → List ℕ → Sides → Sides
+filledWhere held flow sheet x = cond (eqb held flow) x (filled sheet flow x)
 
+-- and kept for the old side, where it is another
 abbrev pub keptWhere : (held flow : ℕ) → Sides → Sides
 keptWhere held flow x = cond (eqb held flow) x (kept x)
 
 -- for the step from n to n + 1: "that step's old side keeps the half-step numbers of the flow before, its new side takes those after"
 abbrev pub sidesFor : List ℕ → (n : ℕ) → Sides → Sides
-sidesFor sheet n x = takenWhere (flowInForce sheet n) (flowInForce sheet (suc n)) sheet x
+sidesFor sheet n x = filledWhere (flowInForce sheet n) (flowInForce sheet (suc n)) sheet x
 
 -- behind that step its new side is the next one's old side
 abbrev pub sidesAfter : List ℕ → (n : ℕ) → Sides → Sides

@@ -1,4 +1,4 @@
-// The sheet's own river in lent lists: its start and its next step, with both sides of a step taken off the sheet. No test is made: what 13 to 15
+// The sheet's own river in lent lists: its start and its next step, with both sides of a step filled off the sheet. No test is made: what 13 to 15
 // ask is known of an accepted sheet and kept from step to step.
 ghost use Prim.Native.Nat.{_<_, _≤_};
 ghost use Rattle.lists.specs.Lent.{entry, exit};
@@ -6,17 +6,17 @@ ghost use Rattle.model.specs.Ranges.{highest, mostSteps};
 ghost use Rattle.model.specs.Sheet.{flowRowCount};
 ghost use Rattle.terms.specs.Lent.{state, working, LongFigures};
 ghost use Rattle.sweep.specs.Step as Sweep;
-ghost use Rattle.own_river.specs.Sides.{width, sidesOf, taken, takenWhere, keptWhere, SidesAre};
-ghost use Rattle.own_river.specs.Stands.{OfSheet, Begun, Stands, Stepped};
+ghost use Rattle.own_river.specs.Sides.{width, sidesOf, filled, filledWhere, keptWhere, SidesAre};
+ghost use Rattle.own_river.specs.Ready.{OfSheet, Begun, Ready, Stepped};
 use lists::copy;
 use otis::River;
 use sheet::fields::flow_in_force;
+use sides::fill;
 use sides::fixed;
 use sides::keep;
 use sides::new;
 use sides::old;
 use sides::starts;
-use sides::take;
 
 pub mod rows;
 pub mod sides;
@@ -36,7 +36,7 @@ pub fn start(
     ensures { λ r. ⌜ Begun (entry sheet) n (entry sides) (state entry channel storage sediment 0 0) u
         (exit sides) (state exit channel storage sediment (r .upstream) (r .steps)) ⌝ }
 {
-    take(sheet, flow_in_force(sheet, 0), n, &mut sides[..]);
+    fill(sheet, flow_in_force(sheet, 0), n, &mut sides[..]);
     keep(&mut sides[..]);
     copy(n, starts(&sides[..]), &mut channel[..]);
     copy(n, starts(&sides[..]), &mut storage[..]);
@@ -47,17 +47,17 @@ pub fn start(
     }
 }
 
-// Another flow than the one held comes into force: its set is taken off the sheet.
-fn take_other(sheet: &[u8], held: u32, flow: u32, n: usize, sides: &mut [u32])
+// Another flow than the one held comes into force: its set is filled off the sheet.
+fn fill_other(sheet: &[u8], held: u32, flow: u32, n: usize, sides: &mut [u32])
     requires { ⌜ OfSheet (now sheet) n × (flow ≤ flowRowCount (now sheet)) × (n ≤ width (now sides)) ⌝ }
-    ensures { λ _. ⌜ SidesAre (takenWhere held flow (entry sheet) (sidesOf (entry sides))) (entry sides) (exit sides) ⌝ }
+    ensures { λ _. ⌜ SidesAre (filledWhere held flow (entry sheet) (sidesOf (entry sides))) (entry sides) (exit sides) ⌝ }
 {
     if held != flow {
-        take(sheet, flow, n, &mut sides[..]);
+        fill(sheet, flow, n, &mut sides[..]);
     }
 }
 
-// And it is then the old side's.
+// Where one did, its set is then the old side's too.
 fn keep_other(held: u32, flow: u32, sides: &mut [u32])
     ensures { λ _. ⌜ SidesAre (keptWhere held flow (sidesOf (entry sides))) (entry sides) (exit sides) ⌝ }
 {
@@ -110,7 +110,7 @@ pub fn step(
     y: &mut [u64],
     u: u32,
 ) -> River
-    requires { ⌜ Stands (now sheet) n (now sides) (state now channel storage sediment (river .upstream) (river .steps)) (working now p y)
+    requires { ⌜ Ready (now sheet) n (now sides) (state now channel storage sediment (river .upstream) (river .steps)) (working now p y)
         × (river .steps < mostSteps) × (u ≤ highest) ⌝ }
     ensures { λ r. ⌜ Stepped (entry sheet) n (entry sides) (state entry channel storage sediment (river .upstream) (river .steps)) (working entry p y) u
         (exit sides) (state exit channel storage sediment (r .upstream) (r .steps)) (working exit p y) ⌝ }
@@ -118,7 +118,7 @@ pub fn step(
     let steps = river.steps + 1;
     let held = flow_in_force(sheet, river.steps);
     let flow = flow_in_force(sheet, steps);
-    take_other(sheet, held, flow, n, &mut sides[..]);
+    fill_other(sheet, held, flow, n, &mut sides[..]);
     sweep(
         n,
         river.upstream,

@@ -7,8 +7,8 @@ ghost use denote.Ref.{RefT};
 ghost use Rattle.lists.specs.Lent.{entry, exit};
 ghost use Rattle.terms.specs.Lent.{setOf, columnsOf};
 ghost use Rattle.model.specs.Sheet.{flowRowCount};
-ghost use Rattle.own_river.specs.Sides.{parts, width, partOf, sidesOf, Put, withSet, withSegment, segmentSays, taken, kept, SidesAre};
-ghost use Rattle.own_river.specs.Stands.{OfSheet};
+ghost use Rattle.own_river.specs.Sides.{parts, width, partOf, sidesOf, Put, withSet, withSegment, segmentSays, filled, kept, SidesAre};
+ghost use Rattle.own_river.specs.Ready.{OfSheet};
 use bands::Bands;
 use course::descent::Cursor;
 use sheet::fields::dt;
@@ -68,9 +68,9 @@ fn put_segment(sides: &mut [u32], i: usize, numbers: Numbers, own: Reach)
 }
 
 // The new side of n segments off the sheet: this flow's set, and the lists that every flow shares.
-pub fn take(sheet: &[u8], row: u32, n: usize, sides: &mut [u32])
+pub fn fill(sheet: &[u8], row: u32, n: usize, sides: &mut [u32])
     requires { ⌜ OfSheet (now sheet) n × (row ≤ flowRowCount (now sheet)) × (n ≤ width (now sides)) ⌝ }
-    ensures { λ _. ⌜ SidesAre (taken (entry sheet) row (sidesOf (entry sides))) (entry sides) (exit sides) ⌝ }
+    ensures { λ _. ⌜ SidesAre (filled (entry sheet) row (sidesOf (entry sides))) (entry sides) (exit sides) ⌝ }
 {
     let top = top_of(sheet, row);
     let dt = dt(sheet);

@@ -19,25 +19,25 @@ use Rattle.own_river_laws.proofs.Standing.{Standing, stands-tested, step-stands
 use Rattle.distance_claim.proofs.Claim.{demand3}
 use Rattle.own_river_claim.proofs.Calls.{start-counts, start-stands, start-alike, step-refused, step-taken, step-leaves}
 
-module _ (sheet : List ℕ) (front : first (riverTests sheet) ≡ passes) (u : ℕ → ℕ) (range : UpstreamInRange u (stepsM sheet)) where
+module _ (sheet : List ℕ) (front : first (riverTests sheet) ≡ passes) (u : ℕ → ℕ) (from : ℕ) (range : UpstreamInRange u from (stepsM sheet)) where
   -- it goes from one state that it may stand in to the next
-  ahead-stands : (state : State) (k : ℕ) → Standing sheet state → state .steps + k ≤ stepsM sheet → Standing sheet (ahead u sheet state k)
+  ahead-stands : (state : State) (k : ℕ) → Standing sheet state → from ≤ suc (state .steps) → state .steps + k ≤ stepsM sheet → Standing sheet (ahead u sheet state k)
   unfolding ahead ownStep writeFigures
-  ahead-stands state zero stands h = stands
-  ahead-stands state (suc k) stands h =
+  ahead-stands state zero stands b h = stands
+  ahead-stands state (suc k) stands b h =
       let u′ = u (suc (state .steps)) in
-      ahead-stands (ownStep sheet u′ state) k (step-stands sheet front state stands u′ (range (suc (state .steps)) (omega arith))) (omega arith)
+      ahead-stands (ownStep sheet u′ state) k (step-stands sheet front state stands u′ (range (suc (state .steps)) b (omega arith))) (omega arith) (omega arith)
 
   -- from any such state, up to M
-  own-run : (state : State) (calls : List LoneCall) → Standing sheet state → OwnCalls u sheet (state .steps) calls →
+  own-run : (state : State) (calls : List LoneCall) → Standing sheet state → OwnCalls u sheet (state .steps) calls → from ≤ suc (state .steps) →
       state .steps + length calls ≤ stepsM sheet → OwnRun u sheet state calls
   unfolding run ahead ownStep writeFigures
-  own-run state [] stands OwnCalls.none h = record { accepted = tt; leaves = refl; fed = Fed.none }
-  own-run state (call ∷ calls) stands (OwnCalls.more {old} {new} {highest} {working} l rest) h =
+  own-run state [] stands OwnCalls.none b h = record { accepted = tt; leaves = refl; fed = Fed.none }
+  own-run state (call ∷ calls) stands (OwnCalls.more {old} {new} {highest} {working} l rest) b h =
       let u′ = u (suc (state .steps)) in
-      let within = range (suc (state .steps)) (omega arith) in
+      let within = range (suc (state .steps)) b (omega arith) in
       let e = step-leaves sheet front state stands old new highest working l u′ within (omega arith) in
-      let x = own-run (ownStep sheet u′ state) calls (step-stands sheet front state stands u′ within) rest (omega arith) in
+      let x = own-run (ownStep sheet u′ state) calls (step-stands sheet front state stands u′ within) rest (omega arith) (omega arith) in
       record {
         accepted = (step-taken sheet front state stands old new highest working l u′ within (omega arith), rw e (x .accepted));
         leaves = rw e (x .leaves);
@@ -45,9 +45,9 @@ module _ (sheet : List ℕ) (front : first (riverTests sheet) ≡ passes) (u : �
       }
 
   -- and no further
-  own-end : (state : State) (k : ℕ) → Standing sheet state → state .steps + k ≡ stepsM sheet → Done sheet (ahead u sheet state k)
-  own-end state k stands e old new highest working u′ l within =
-      step-refused sheet front (ahead u sheet state k) (ahead-stands state k stands (omega arith)) old new highest working l u′ within
+  own-end : (state : State) (k : ℕ) → Standing sheet state → from ≤ suc (state .steps) → state .steps + k ≡ stepsM sheet → Done sheet (ahead u sheet state k)
+  own-end state k stands b e old new highest working u′ l within =
+      step-refused sheet front (ahead u sheet state k) (ahead-stands state k stands b (omega arith)) old new highest working l u′ within
       (ahead-counts u sheet state k ∙ e)
 
 -- M is that of an accepted loading
@@ -61,23 +61,26 @@ own-river-steps sheet r records columns v e u range before n lent highest lists 
     let passed = load-passed e in
     let front = passed .front in
     let steps = steps-told passed in
-    let within : UpstreamInRange u (stepsM sheet) = rw steps range in
+    let within : UpstreamInRange u 0 (stepsM sheet) = rw steps range in
     let state = after before (alone n (start lent highest (u 0))) in
     let count : state .steps ≡ 0 = start-counts sheet n lent before highest (u 0) lists taken in
     let stands = start-stands sheet n lent before highest (u 0) lists taken front in
-    let x = own-run sheet front u within state calls stands (rw count own) (omega (arith, count, steps, h)) in (
+    let x = own-run sheet front u 0 within state calls stands (rw count own) (omega arith) (omega (arith, count, steps, h)) in (
       x,
       rw (x .leaves) (ahead-alike u sheet _ _ (length calls) (start-alike sheet u n lent before highest lists taken)),
       demand3 sheet r records columns v e before n lent highest (u 0) calls taken (Fed.more (λ a. lists) (x .fed)),
-      λ q. rw (x .leaves) (own-end sheet front u within state (length calls) stands (omega (arith, count, steps))),
+      λ q. rw (x .leaves) (own-end sheet front u 0 within state (length calls) stands (omega arith) (omega (arith, count, steps))),
     )
 
 pub own-river-onwards : OwnRiverOnwards
 own-river-onwards sheet r records columns v e state long figures held u range calls own h =
     let passed = load-passed e in
     let steps = steps-told passed in
-    let within : UpstreamInRange u (stepsM sheet) = rw steps range in
-    own-run sheet (passed .front) u within state calls (stands-tested sheet state long figures held) own (omega (arith, steps, h))
+    let from = suc (state .steps) in
+    let within : UpstreamInRange u from (stepsM sheet) = rw steps range in
+    let stands = stands-tested sheet state long figures held in
+    let x = own-run sheet (passed .front) u from within state calls stands own (omega arith) (omega (arith, steps, h)) in
+    (x, λ q. rw (x .leaves) (own-end sheet (passed .front) u from within state (length calls) stands (omega arith) (omega (arith, steps, q))))
 
 pub rows-upstream : RowsUpstream
 rows-upstream sheet r records columns v e j =

@@ -32,7 +32,7 @@ steps-events u sheet state (call ∷ calls) (OwnCalls.more {n} l rest) taken =
 -- a start and these
 
 module _ (sheet : List ℕ) (r : ℕ) (records : List Reach) (columns : Columns) (v : Loaded) (e : loadAnswer sheet r (length records) columns ≡ accepted v)
-    (u : ℕ → ℕ) (range : UpstreamInRange u (v .steps)) (before : State) (n : ℕ) (lent : Columns) (highest : List ℕ) (lists : AsLoaded sheet n lent)
+    (u : ℕ → ℕ) (range : UpstreamInRange u 0 (v .steps)) (before : State) (n : ℕ) (lent : Columns) (highest : List ℕ) (lists : AsLoaded sheet n lent)
     (taken : T (accepts before (alone n (start lent highest (u 0))))) (calls : List LoneCall) (own : OwnCalls u sheet 0 calls)
     (few : length calls ≤ v .steps) where
   run-holds : OwnHolds u sheet (length calls)
@@ -47,6 +47,7 @@ module _ (sheet : List ℕ) (r : ℕ) (records : List Reach) (columns : Columns)
       record {
         exists = rw fed at (holds .exists);
         unique = rw fed at (holds .unique);
+        counted = λ q ran. (steps, sym (holds .counted q (rw fed ran)) ∙ x .1 .steps ∙ steps);
         near = λ q ran.
             let ran′ : ExactRun sheet noRiver (events before (first ∷ calls)) q = rw fed ran in
             let count : q .n ≡ length calls = sym (holds .counted q ran′) ∙ x .1 .steps ∙ steps in
@@ -55,6 +56,6 @@ module _ (sheet : List ℕ) (r : ℕ) (records : List Reach) (columns : Columns)
 
 pub own-river-near : OwnRiverNear
 own-river-near sheet r records columns v e u range k h =
-    let x = own-calls-exist sheet r records columns v e u (range 0 (omega arith)) k in
+    let x = own-calls-exist sheet r records columns v e u (range 0 (omega arith) (omega arith)) k in
     let many = x .5 .3 in
     rw many at (run-holds sheet r records columns v e u range (x .0) (x .1) (x .2) (x .3) (x .5 .0) (x .5 .1) (x .4) (x .5 .2) (omega (arith, many, h)))

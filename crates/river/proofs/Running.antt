@@ -17,17 +17,17 @@ use Rattle.loading_laws.proofs.AsLoaded.{segment-as-loaded, same-kd}
 use Rattle.own_river_laws.proofs.Ahead.{ahead-counts, ahead-last, ahead-alike, start-alike-lists}
 use Rattle.own_river_laws.proofs.Sheets.{most-steps, gauge-first, gauge-last}
 use Rattle.own_river.specs.Sides.{sidesOf}
-use Rattle.own_river.specs.Stands.{OfSheet, Begun, Stands, Stepped}
+use Rattle.own_river.specs.Ready.{OfSheet, Begun, Ready, Stepped}
 use Rattle.own_river.proofs.Parts.{long-new}
 use Rattle.own_river.proofs.Stepping.{SameLengths, step-lengths}
 use Rattle.output.specs.Text.{heading, done, refused}
-use Rattle.output.specs.Listing.{linesAt, linesAhead, listing, printedTo}
-use Rattle.output.specs.Outcomes.{PutLine, Puts, Lines, fresh}
+use Rattle.output.specs.Listing.{linesAt, linesAhead, listing, printedTo, printed, text}
+use Rattle.output.specs.Outcomes.{longest, Flushed, PutLine, Puts, Lines, fresh}
 use Rattle.output.specs.declared.Output.{Output}
 use Rattle.output.proofs.Lines.{puts-one, puts-append, puts-failed, listed}
 use Rattle.output.proofs.Alike.{lines-alike}
 use Rattle.listing.specs.Shown.{Shown}
-use Rattle.river.specs.Printed.{Ran, Printed}
+use Rattle.river.specs.Printed.{Ran, PutSheet, Printed}
 
 -- ---- lines
 
@@ -51,20 +51,20 @@ none-failed {o = o} x e = go (o .failed) refl
 pub record Going (sheet : List ℕ) (n : ℕ) (begun : List ℕ) (from : State) (room : Working) (o : Output) (b : List ℕ) (sides : List ℕ) (state : State) (working : Working) (out : Output) (buffer : List ℕ) (left : ℕ) : Type 0 where
   pub k : ℕ
   pub is : state ≡ ahead (rowsUpstream sheet) sheet from k
-  pub stands : Stands sheet n sides state working
+  pub ready : Ready sheet n sides state working
   pub lines : Lines (linesAhead (rowsUpstream sheet) sheet from k) o b out buffer
   pub few : from .steps + k + left ≤ stepsM sheet
   pub all : out .failed ≡ false → from .steps + k + left ≡ stepsM sheet
   pub sides-long : length sides ≡ length begun
   pub lengths : SameLengths from state room working
 
-pub going-start : {sheet : List ℕ} {n : ℕ} {from : State} {o : Output} {b : List ℕ} {sides : List ℕ} {working : Working} → Stands sheet n sides from working →
+pub going-start : {sheet : List ℕ} {n : ℕ} {from : State} {o : Output} {b : List ℕ} {sides : List ℕ} {working : Working} → Ready sheet n sides from working →
     from .steps ≤ stepsM sheet → {left : ℕ} → left ≡ stepsM sheet - from .steps → Going sheet n sides from working o b sides from working o b left
 unfolding ahead linesAhead
-going-start stands h e = record {
+going-start ready h e = record {
   k = 0;
   is = refl;
-  stands = stands;
+  ready = ready;
   lines = record { written = []; puts = Puts.none };
   few = omega arith;
   all = λ q. omega arith;
@@ -83,7 +83,7 @@ module _ {sheet : List ℕ} {n : ℕ} {begun : List ℕ} {from : State} {room : 
   below-M h = omega (arith, counted, g .few)
 
   pub below-most : 0 < left → state .steps < mostSteps
-  below-most h = omega (arith, below-M h, most-steps sheet (g .stands .of-sheet .passed))
+  below-most h = omega (arith, below-M h, most-steps sheet (g .ready .of-sheet .passed))
 
   -- one step more, and its lines
   pub going-turn : {sides′ : List ℕ} {state′ : State} {working′ : Working} {out′ : Output} {buffer′ : List ℕ} {left′ : ℕ} {u′ : ℕ} → 0 < left →
@@ -94,7 +94,7 @@ module _ {sheet : List ℕ} {n : ℕ} {begun : List ℕ} {from : State} {room : 
   going-turn {state′ = state′} {working′ = working′} {out′ = out′} {left′ = left′} {u′ = u′} h u step lines e = record {
     k = suc (g .k);
     is = on;
-    stands = step .stands;
+    ready = step .ready;
     lines = lines-then (g .lines) (rw on at lines);
     few = most (out′ .failed) e;
     all = λ q. let l : left′ ≡ left - 1 = e ∙ rw q in omega (arith, g .all (none-failed lines q));
@@ -109,7 +109,7 @@ module _ {sheet : List ℕ} {n : ℕ} {begun : List ℕ} {from : State} {room : 
   }
     where
       same : SameLengths state state′ working working′
-      same = step-lengths (g .stands) step
+      same = step-lengths (g .ready) step
 
       on : state′ ≡ ahead (rowsUpstream sheet) sheet from (suc (g .k))
       on =
@@ -131,7 +131,7 @@ module _ {sheet : List ℕ} {n : ℕ} {begun : List ℕ} {from : State} {room : 
         few = omega (arith, g .few);
         lines = lines-then (g .lines) (rw counted at last);
         all = λ q. omega (arith, g .all (none-failed last q));
-        stands = rw (g .is) at (g .stands);
+        ready = rw (g .is) at (g .ready);
         channel-is = ap (λ (s : State). s .channel) (g .is);
         storage-is = ap (λ (s : State). s .storage) (g .is);
         sediment-is = ap (λ (s : State). s .sediment) (g .is);
@@ -143,16 +143,16 @@ due-less true left e h = omega arith
 due-less false left e h = omega arith
 
 -- what the lines of a step are read from
-pub shown : {sheet : List ℕ} {n : ℕ} {sides : List ℕ} {state : State} {working : Working} → Stands sheet n sides state working → (kd : List ℕ) → kd ≡ sidesOf sides .new .kd →
+pub shown : {sheet : List ℕ} {n : ℕ} {sides : List ℕ} {state : State} {working : Working} → Ready sheet n sides state working → (kd : List ℕ) → kd ≡ sidesOf sides .new .kd →
     Shown sheet kd (state .channel) (state .storage) (state .sediment)
 unfolding segmentAt
-shown {sheet} {n} {sides} {state} stands kd e =
-    let count = stands .of-sheet .count in
-    let long = stands .in-range .long in
+shown {sheet} {n} {sides} {state} ready kd e =
+    let count = ready .of-sheet .count in
+    let long = ready .in-range .long in
     record {
-      passed = stands .of-sheet .passed;
-      kd-long = rw (← count, e) (long-new sides n (stands .in-force .wide) .kd);
-      kd-is = λ i h. rw e (ap (λ x. x .kd) (segment-as-loaded (stands .in-force .new) i h) ∙ same-kd sheet (flowInForce sheet (state .steps)) i);
+      passed = ready .of-sheet .passed;
+      kd-long = rw (← count, e) (long-new sides n (ready .in-force .wide) .kd);
+      kd-is = λ i h. rw e (ap (λ x. x .kd) (segment-as-loaded (ready .in-force .new) i h) ∙ same-kd sheet (flowInForce sheet (state .steps)) i);
       figures = record { channel = rw (← count) (long .channel); storage = rw (← count) (long .storage); sediment = rw (← count) (long .sediment) };
     }
 
@@ -167,11 +167,11 @@ ahead-lines sheet front u s t a (suc k) =
     rw (ahead-lines sheet front u s t a k, lines-alike sheet (λ j h. (gauge-first sheet front j h, gauge-last sheet front j h)) (ahead-alike u sheet s t (suc k) a))
 
 -- the heading, and the run from a state alike to the start's
-pub printed-listing : {sheet : List ℕ} {n : ℕ} {buffer between later sides c z w : List ℕ} {working : Working} {out r : Output} (state : State) → first (riverTests sheet) ≡ passes → state .steps ≡ 0 →
+pub put-whole : {sheet : List ℕ} {n : ℕ} {buffer between later sides c z w : List ℕ} {working : Working} {out r : Output} (state : State) → first (riverTests sheet) ≡ passes → state .steps ≡ 0 →
     Alike (segmentCount sheet) state (ownStart (rowsUpstream sheet) sheet) → PutLine heading fresh buffer out between → Ran sheet n state out between sides c z w working r later →
-    Printed sheet buffer r later
+    PutSheet sheet buffer r later
 unfolding printedTo listing
-printed-listing {sheet} state front none alike put ran =
+put-whole {sheet} state front none alike put ran =
     let ends : done (state .steps + ran .steps) ≡ done (ran .steps) = ap done (omega (arith, none)) in
     let same = ahead-lines sheet front (rowsUpstream sheet) state (ownStart (rowsUpstream sheet) sheet) alike (ran .steps) in
     let lines = rw (same, ends) at (ran .lines) in
@@ -184,18 +184,18 @@ printed-listing {sheet} state front none alike put ran =
     }
 
 -- a refusal
-pub printed-refused : {sheet buffer later : List ℕ} {r : Output} (number : ℕ) (place : Place) → first (riverTests sheet) ≡ fails number place → PutLine (refused number) fresh buffer r later →
-    Printed sheet buffer r later
+pub put-refused-sheet : {sheet buffer later : List ℕ} {r : Output} (number : ℕ) (place : Place) → first (riverTests sheet) ≡ fails number place → PutLine (refused number) fresh buffer r later →
+    PutSheet sheet buffer r later
 unfolding printedTo
-printed-refused {sheet} number place front put = record { steps = stepsM sheet; few = omega arith; lines = rw front (listed (puts-one put)); all = λ q. refl }
+put-refused-sheet {sheet} number place front put = record { steps = stepsM sheet; few = omega arith; lines = rw front (listed (puts-one put)); all = λ q. refl }
 
 -- ---- the start
 
--- the river stands at its start
-pub stands-begun : {sheet : List ℕ} {n : ℕ} {sides sides′ : List ℕ} {state state′ : State} {u : ℕ} (working : Working) → OfSheet sheet n → Begun sheet n sides state u sides′ state′ →
-    n ≤ length (working .p) → n ≤ length (working .y) → Stands sheet n sides′ state′ working
+-- the river is ready at its start
+pub ready-begun : {sheet : List ℕ} {n : ℕ} {sides sides′ : List ℕ} {state state′ : State} {u : ℕ} (working : Working) → OfSheet sheet n → Begun sheet n sides state u sides′ state′ →
+    n ≤ length (working .p) → n ≤ length (working .y) → Ready sheet n sides′ state′ working
 unfolding writeFigures
-stands-begun {sheet} {n} {sides′ = sides′} working river begun p y = record {
+ready-begun {sheet} {n} {sides′ = sides′} working river begun p y = record {
   of-sheet = river;
   in-force = let none = ap (λ (s : State). s .steps) (begun .state-is) in rw none (begun .in-force);
   in-range = begun .in-range;
@@ -211,3 +211,18 @@ begun-alike {sheet} {state = state} e begun = rw (begun .state-is, e) (start-ali
 pub begun-steps : {sheet : List ℕ} {n : ℕ} {sides sides′ : List ℕ} {state state′ : State} {u : ℕ} → Begun sheet n sides state u sides′ state′ → state′ .steps ≡ 0
 unfolding writeFigures
 begun-steps begun = ap (λ (s : State). s .steps) (begun .state-is)
+
+-- the last write
+pub printed-whole : {sheet buffer later : List ℕ} {out r : Output} → longest ≤ length buffer → PutSheet sheet buffer out later → Flushed out later r →
+    Printed sheet buffer r later
+unfolding printed
+printed-whole {sheet} {out = out} {r = r} long put flushed = record {
+  out = out;
+  put = put;
+  flushed = flushed;
+  text-is = λ e. let q = before (out .failed) refl e in put .lines .text-is long q ∙ ap (λ k. text (printedTo sheet k)) (put .all q);
+}
+  where
+    before : (t : Bool) → out .failed ≡ t → r .failed ≡ false → out .failed ≡ false
+    before true f e = absurd (true≢false (sym (flushed .failed f) ∙ e))
+    before false f e = f

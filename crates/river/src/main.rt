@@ -7,8 +7,10 @@ ghost use Rattle.model.specs.Refusals.{passes, first};
 ghost use Rattle.model.specs.Load.{riverTests};
 ghost use Rattle.model.specs.Sheet.{stepsM};
 ghost use Rattle.terms.specs.Lent.{state, working};
-ghost use Rattle.own_river.specs.Stands.{Stands};
-ghost use Rattle.river.specs.Printed.{Ran, Printed};
+ghost use Rattle.own_river.specs.Ready.{Ready};
+ghost use lib.ListN.{length};
+ghost use Rattle.output.specs.Outcomes.{longest};
+ghost use Rattle.river.specs.Printed.{Ran, PutSheet, Printed};
 use assembly::river_test;
 use libc::STDIN_FILENO;
 use listing::put_lines;
@@ -36,7 +38,7 @@ fn due(out: Output, left: u32) -> u32
     if out.failed { 0 } else { left }
 }
 
-// The sheet's own river from where it stands up to M: the lines of each step, and then `done` with the steps made.
+// The sheet's own river from this state up to M: the lines of each step, and then `done` with the steps made.
 fn run(
     river: River,
     sheet: &[u8],
@@ -50,7 +52,7 @@ fn run(
     out: Output,
     buffer: &mut [u8],
 ) -> Output
-    requires { ⌜ Stands (now sheet) n (now sides) (state now channel storage sediment (river .upstream) (river .steps)) (working now p y)
+    requires { ⌜ Ready (now sheet) n (now sides) (state now channel storage sediment (river .upstream) (river .steps)) (working now p y)
         × (river .steps ≤ stepsM (now sheet)) ⌝ }
     ensures { λ r. ⌜ Ran (entry sheet) n (state entry channel storage sediment (river .upstream) (river .steps)) out (entry buffer)
         (exit sides) (exit channel) (exit storage) (exit sediment) (working exit p y) r (exit buffer) ⌝ }
@@ -89,9 +91,9 @@ fn run(
 }
 
 // The listing of an accepted sheet: its river is started and run.
-fn print_listing(sheet: &[u8], buffer: &mut [u8]) -> Output
+fn put_listing(sheet: &[u8], buffer: &mut [u8]) -> Output
     requires { ⌜ first (riverTests (now sheet)) ≡ passes ⌝ }
-    ensures { λ r. ⌜ Printed (entry sheet) (entry buffer) r (exit buffer) ⌝ }
+    ensures { λ r. ⌜ PutSheet (entry sheet) (entry buffer) r (exit buffer) ⌝ }
 {
     let n = segment_count(sheet);
     let mut sides = [0u32; PARTS * ROOM];
@@ -125,21 +127,29 @@ fn print_listing(sheet: &[u8], buffer: &mut [u8]) -> Output
     )
 }
 
-// What is printed of these bytes: "A refused sheet prints only `refused` and its number."
-fn print(sheet: &[u8], buffer: &mut [u8]) -> Output
-    ensures { λ r. ⌜ Printed (entry sheet) (entry buffer) r (exit buffer) ⌝ }
+// What is put of these bytes: "A refused sheet prints only `refused` and its number."
+fn put_sheet(sheet: &[u8], buffer: &mut [u8]) -> Output
+    ensures { λ r. ⌜ PutSheet (entry sheet) (entry buffer) r (exit buffer) ⌝ }
 {
     let found = river_test(sheet);
     match found {
-        Finding::Passes => print_listing(sheet, &mut buffer[..]),
+        Finding::Passes => put_listing(sheet, &mut buffer[..]),
         Finding::Fails(number, _) => Output::new().put_refused(&mut buffer[..], number),
     }
+}
+
+// And printed, with the last write made.
+fn print(sheet: &[u8], buffer: &mut [u8]) -> Output
+    requires { ⌜ longest ≤ length (now buffer) ⌝ }
+    ensures { λ r. ⌜ Printed (entry sheet) (entry buffer) r (exit buffer) ⌝ }
+{
+    let out = put_sheet(sheet, &mut buffer[..]);
+    out.flush(&buffer[..])
 }
 
 fn main() {
     let mut bytes = [0u8; BYTES];
     let got = io::read_full(STDIN_FILENO, &mut bytes);
     let mut buffer = io::large_buffer();
-    let out = print(&bytes[..got], &mut buffer);
-    out.flush(&buffer);
+    print(&bytes[..got], &mut buffer);
 }

@@ -1,33 +1,11 @@
--- `print` meets its contract: the listing, or the refusal of the first test that fails.
-use mathlib.Core.Path.{sym, ap, _∙_}
+-- `print` meets its contract: what is put, and the write that is then due.
 use borrow.Author.Needs.{needs}
-use Rattle.terms.specs.Says.{findingSays}
-use Rattle.output.proofs.Lines.{fresh-is}
-use Rattle.river.proofs.Running.{printed-refused}
+use Rattle.river.proofs.Running.{printed-whole}
 use Rattle.river.proofs.print.Statement.{statement}
 use Rattle.river.proofs.print.Tie as tie
 
-print-listing-requires : tie.Need-print-listing-requires
-print-listing-requires c κs = let a = c .before in sym (a .before .before .river-test .ensures) ∙ ap findingSays (a .enum-told .given .1)
-
-returns-2 : tie.Need-returns-2
-returns-2 c =
-    let p = c .before .before in
-    let n = p .before .before in
-    let f = n .before .before in
-    printed-refused _ _ (sym (f .before .before .river-test .ensures) ∙ ap findingSays (f .found .given .1)) (rw (fresh-is (n .new .ensures)) at (p .put-refused .ensures))
+returns : tie.Need-returns
+returns c = let p = c .before .before .before .before in printed-whole (p .before .before .before .before .pre) (p .put-sheet .ensures) (c .flush .ensures)
 
 pub print-spec : {M : Type 1} → statement M
-print-spec =
-    tie.close
-    (tie.spec
-    (λ c κs. search needs)
-    (λ c. search needs)
-    print-listing-requires
-    (λ c. search needs)
-    (λ c κs. search needs)
-    (λ c κs. search needs)
-    (λ c. search needs)
-    (λ c. search needs)
-    (λ c. search needs)
-    returns-2)
+print-spec = tie.close (tie.spec (λ c κs. search needs) (λ c κs. search needs) (λ c. search needs) returns)

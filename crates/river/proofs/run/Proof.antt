@@ -38,14 +38,14 @@ step-requires c κs =
     let f = found c in
     let t = turn f in
     let g = t .before .loop .inv in
-    (g .stands, below-most g (omega (arith, t .loop-test .taken)), rw (f .upstream-at .ensures) (rows-most _ (g .stands .of-sheet .passed) _))
+    (g .ready, below-most g (omega (arith, t .loop-test .taken)), rw (f .upstream-at .ensures) (rows-most _ (g .ready .of-sheet .passed) _))
 
 -- the step, from where its lines are put
 abbrev made : tie.After-put-lines-arg4 Inv-loop μ-loop → tie.After-step Inv-loop μ-loop
 made c = c .before .before .before .before .before .before .before .before .before .before .before .before .before .before .before .before .before .before
 
 put-lines-requires : tie.Need-put-lines-requires Inv-loop μ-loop
-put-lines-requires c κs = shown (made c .step .ensures .stands) _ (c .before .before .before .before .kd .ensures)
+put-lines-requires c κs = shown (made c .step .ensures .ready) _ (c .before .before .before .before .kd .ensures)
 
 loop-less : tie.Need-loop-less Inv-loop μ-loop
 loop-less c =

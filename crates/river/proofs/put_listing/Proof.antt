@@ -1,14 +1,14 @@
--- `print_listing` meets its contract: the river is started in lists that are long enough for every sheet, and run.
+-- `put_listing` meets its contract: the river is started in lists that are long enough for every sheet, and run.
 use Prim.Native.Nat.{_≤_, zero-le}
 use native.Mathlib.Omega.{arith}
 use borrow.Author.Needs.{needs}
 use Rattle.model.specs.Ranges.{mostSegments}
 use Rattle.own_river_laws.proofs.Sheets.{most-segments, rows-most}
-use Rattle.own_river.specs.Stands.{OfSheet}
+use Rattle.own_river.specs.Ready.{OfSheet}
 use Rattle.output.proofs.Lines.{fresh-is}
-use Rattle.river.proofs.Running.{stands-begun, begun-alike, begun-steps, printed-listing}
-use Rattle.river.proofs.print_listing.Statement.{statement}
-use Rattle.river.proofs.print_listing.Tie as tie
+use Rattle.river.proofs.Running.{ready-begun, begun-alike, begun-steps, put-whole}
+use Rattle.river.proofs.put_listing.Statement.{statement}
+use Rattle.river.proofs.put_listing.Tie as tie
 
 -- the sheet's river, where its segments are counted
 river : (c : tie.After-segment-count) → OfSheet (c .before .before .before .args .sheet .now) (c .segment-count .result)
@@ -37,18 +37,18 @@ run-requires : tie.Need-run-requires
 run-requires c κs =
     let s = begun c in
     let n = counted s in
-    (stands-begun _ (river n) (s .start .ensures) (omega (arith, few n)) (omega (arith, few n)), rw (begun-steps (s .start .ensures)) zero-le)
+    (ready-begun _ (river n) (s .start .ensures) (omega (arith, few n)) (omega (arith, few n)), rw (begun-steps (s .start .ensures)) zero-le)
 
 returns : tie.Need-returns
 returns c =
     let r = c .before .before .before .before .before .before .before .before in
     let s = begun (r .before) in
     let h = r .before .before .before .before .before .before .before .before .before .before in
-    printed-listing _ (counted s .before .before .before .pre) (begun-steps (s .start .ensures)) (begun-alike (s .before .upstream-at .ensures) (s .start .ensures))
+    put-whole _ (counted s .before .before .before .pre) (begun-steps (s .start .ensures)) (begun-alike (s .before .upstream-at .ensures) (s .start .ensures))
     (rw (fresh-is (h .before .before .new .ensures)) at (h .put-heading .ensures)) (r .run .ensures)
 
-pub print-listing-spec : {M : Type 1} → statement M
-print-listing-spec =
+pub put-listing-spec : {M : Type 1} → statement M
+put-listing-spec =
     tie.close
     (tie.spec
     (λ c κs. search needs)

@@ -1,4 +1,4 @@
--- `take` meets its contract: the descent stands at segment i, and the segments above are written.
+-- `fill` meets its contract: the descent stands at segment i, and the segments above are written.
 use mathlib.Core.Path.{_≡_, refl, sym, ap, _∙_}
 use Prim.Native.Nat.{_-_, _<_, _≤_}
 use native.Mathlib.Omega.{arith}
@@ -15,8 +15,8 @@ use Rattle.columns.proofs.Writing.{Writing, writing-start, writing-turn, writin
 use Rattle.assembly.proofs.LoadTests.{behind-12}
 use Rattle.own_river.specs.Sides.{Sides, sidesOf}
 use Rattle.own_river.proofs.Parts.{sides-of, long-new}
-use Rattle.own_river.proofs.sides.take.Statement.{statement}
-use Rattle.own_river.proofs.sides.take.Tie as tie
+use Rattle.own_river.proofs.sides.fill.Statement.{statement}
+use Rattle.own_river.proofs.sides.fill.Tie as tie
 
 abbrev Inv-loop : tie.InvT-loop
 Inv-loop sheet row n sides₀ top dt dx own₀ table₀ here₀ above₀ i₀ sides own table here above i =
@@ -133,8 +133,8 @@ returns c =
     let new = writing-end (s .args .sheet .now) (s .args .row) (inv .1) (omega (arith, c .loop-test .left, inv .2, s .pre .0 .count)) in
     record { sides = sides-of (inv .3) new (inv .4); long = inv .5 }
 
-pub take-spec : {M : Type 1} → statement M
-take-spec =
+pub fill-spec : {M : Type 1} → statement M
+fill-spec =
     tie.close
     (tie.spec
     Inv-loop
