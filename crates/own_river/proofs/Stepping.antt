@@ -32,7 +32,7 @@ use Rattle.own_river_laws.proofs.Ahead.{step-length, starts-length}
 use Rattle.own_river_laws.proofs.Standing.{Standing, in-range, stands-at, stands-written, step-stands}
 use Rattle.terms.specs.Lent.{LongFigures}
 use Rattle.sweep.specs.Step as Sweep
-use Rattle.own_river.specs.Sides.{width, Sides, sidesOf, filled, kept, filledWhere, keptWhere, sidesFor, SidesAre}
+use Rattle.own_river.specs.Sides.{width, Sides, sidesOf, filled, kept, whereOther, sidesFor, SidesAre}
 use Rattle.own_river.specs.Ready.{OfSheet, InForce, InRange, Begun, Ready, Stepped}
 use Rattle.own_river.proofs.Parts.{long-old, long-new}
 
@@ -61,7 +61,7 @@ module _ (sheet : List ℕ) (n steps : ℕ) (count : n ≡ segmentCount sheet) (
       (λ e. rw e (record { before = force .old; after = filled-loaded sheet (flowInForce sheet (suc steps)) n (sidesOf sides .new) count })))
 
   -- behind it both sides hold the set of the flow in force there
-  pub force-after : (sides₂ : List ℕ) → SidesAre (keptWhere (flowInForce sheet steps) (flowInForce sheet (suc steps)) (sidesOf sides₁)) sides₁ sides₂ →
+  pub force-after : (sides₂ : List ℕ) → SidesAre (whereOther (flowInForce sheet steps) (flowInForce sheet (suc steps)) kept (sidesOf sides₁)) sides₁ sides₂ →
       InForce sheet n (suc steps) sides₂
   force-after sides₂ after =
       let wide : n ≤ width sides₂ = rw (after .long, held .long) (force .wide) in
@@ -98,11 +98,11 @@ uncounted x = record { channel = x .channel; storage = x .storage; sediment = x 
 
 -- the flows of the step, by their numbers as they were read
 module _ (sheet : List ℕ) (steps held flow : ℕ) (list list′ : List ℕ) (e : held ≡ flowInForce sheet steps) (f : flow ≡ flowInForce sheet (steps + 1)) where
-  pub for-step : SidesAre (filledWhere held flow sheet (sidesOf list)) list list′ → SidesAre (sidesFor sheet steps (sidesOf list)) list list′
+  pub for-step : SidesAre (whereOther held flow (filled sheet flow) (sidesOf list)) list list′ → SidesAre (sidesFor sheet steps (sidesOf list)) list list′
   for-step h = rw (e, f, add-one steps) at h
 
-  pub behind-step : SidesAre (keptWhere held flow (sidesOf list)) list list′ →
-      SidesAre (keptWhere (flowInForce sheet steps) (flowInForce sheet (suc steps)) (sidesOf list)) list list′
+  pub behind-step : SidesAre (whereOther held flow kept (sidesOf list)) list list′ →
+      SidesAre (whereOther (flowInForce sheet steps) (flowInForce sheet (suc steps)) kept (sidesOf list)) list list′
   behind-step h = rw (e, f, add-one steps) at h
 
 module _ (sheet : List ℕ) (n : ℕ) (sides sides₁ : List ℕ) (state : State) (working : Working) (u′ : ℕ) (ready : Ready sheet n sides state working)
@@ -138,7 +138,7 @@ module _ (sheet : List ℕ) (n : ℕ) (sides sides₁ : List ℕ) (state : State
   -- the sweep has made the step
   pub own-step : (c z w p y sides₂ : List ℕ) →
       Sweep.Stepped n (sidesOf sides₁ .old) (sidesOf sides₁ .new) (uncounted state) working u′ c z w p y →
-      SidesAre (keptWhere (flowInForce sheet (state .steps)) (flowInForce sheet (suc (state .steps))) (sidesOf sides₁)) sides₁ sides₂ →
+      SidesAre (whereOther (flowInForce sheet (state .steps)) (flowInForce sheet (suc (state .steps))) kept (sidesOf sides₁)) sides₁ sides₂ →
       Stepped sheet n sides state working u′ sides₂ (record { channel = c; storage = z; sediment = w; upstream = u′; steps = state .steps + 1 })
       (record { p = p; y = y })
   unfolding ownStep writeFigures stepLeft figuresAt
@@ -285,17 +285,10 @@ module _ {n : ℕ} {old old′ : NumberSet} {new new′ : Columns} {state : Stat
   pub stepped-with : {c z w p y : List ℕ} → Sweep.Stepped n old′ new′ state working u′ c z w p y → Sweep.Stepped n old new state working u′ c z w p y
   stepped-with r = rw (e, f) at r
 
--- where the flow stays
-pub stays : (held flow : ℕ) (sheet list : List ℕ) → held ≡ flow → SidesAre (filledWhere held flow sheet (sidesOf list)) list list
-stays held flow sheet list e = record { sides = rw (eq-eqb held flow e); long = refl }
+-- where the flow stays, and where it does not
+pub stays : (held flow : ℕ) (change : Sides → Sides) (list : List ℕ) → held ≡ flow → SidesAre (whereOther held flow change (sidesOf list)) list list
+stays held flow change list e = record { sides = rw (eq-eqb held flow e); long = refl }
 
-pub stays-kept : (held flow : ℕ) (list : List ℕ) → held ≡ flow → SidesAre (keptWhere held flow (sidesOf list)) list list
-stays-kept held flow list e = record { sides = rw (eq-eqb held flow e); long = refl }
-
--- where it does not
-pub changes : (held flow : ℕ) (sheet list list′ : List ℕ) → (held ≡ flow → ⊥) → SidesAre (filled sheet flow (sidesOf list)) list list′ →
-    SidesAre (filledWhere held flow sheet (sidesOf list)) list list′
-changes held flow sheet list list′ e h = record { sides = h .sides ∙ rw (ne-eqb held flow e); long = h .long }
-
-pub changes-kept : (held flow : ℕ) (list list′ : List ℕ) → (held ≡ flow → ⊥) → SidesAre (kept (sidesOf list)) list list′ → SidesAre (keptWhere held flow (sidesOf list)) list list′
-changes-kept held flow list list′ e h = record { sides = h .sides ∙ rw (ne-eqb held flow e); long = h .long }
+pub changes : (held flow : ℕ) (change : Sides → Sides) (list list′ : List ℕ) → (held ≡ flow → ⊥) → SidesAre (change (sidesOf list)) list list′ →
+    SidesAre (whereOther held flow change (sidesOf list)) list list′
+changes held flow change list list′ e h = record { sides = h .sides ∙ rw (ne-eqb held flow e); long = h .long }

@@ -81,21 +81,17 @@ filled sheet r x = record { old = x .old; new = writeSegments (loadedSegments sh
 abbrev pub kept : Sides → Sides
 kept x = record { old = x .new .numbers; new = x .new; rest = x .rest }
 
--- the flow's set filled in, where it is another than the one held
-abbrev pub filledWhere : (held flow : ℕ) → List ℕ → Sides → Sides
-filledWhere held flow sheet x = cond (eqb held flow) x (filled sheet flow x)
-
--- and kept for the old side, where it is another
-abbrev pub keptWhere : (held flow : ℕ) → Sides → Sides
-keptWhere held flow x = cond (eqb held flow) x (kept x)
+-- changed so where the flow is another than the one held
+abbrev pub whereOther : (held flow : ℕ) → (Sides → Sides) → Sides → Sides
+whereOther held flow change x = cond (eqb held flow) x (change x)
 
 -- for the step from n to n + 1: "that step's old side keeps the half-step numbers of the flow before, its new side takes those after"
 abbrev pub sidesFor : List ℕ → (n : ℕ) → Sides → Sides
-sidesFor sheet n x = filledWhere (flowInForce sheet n) (flowInForce sheet (suc n)) sheet x
+sidesFor sheet n x = whereOther (flowInForce sheet n) (flowInForce sheet (suc n)) (filled sheet (flowInForce sheet (suc n))) x
 
 -- behind that step its new side is the next one's old side
 abbrev pub sidesAfter : List ℕ → (n : ℕ) → Sides → Sides
-sidesAfter sheet n x = keptWhere (flowInForce sheet n) (flowInForce sheet (suc n)) (sidesFor sheet n x)
+sidesAfter sheet n x = whereOther (flowInForce sheet n) (flowInForce sheet (suc n)) kept (sidesFor sheet n x)
 
 -- the list holds these, and is as long as it was
 pub record SidesAre (x : Sides) (before after : List ℕ) : Type 0 where

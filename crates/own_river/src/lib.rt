@@ -6,7 +6,7 @@ ghost use Rattle.model.specs.Ranges.{highest, mostSteps};
 ghost use Rattle.model.specs.Sheet.{flowRowCount};
 ghost use Rattle.terms.specs.Lent.{state, working, LongFigures};
 ghost use Rattle.sweep.specs.Step as Sweep;
-ghost use Rattle.own_river.specs.Sides.{width, sidesOf, filled, filledWhere, keptWhere, SidesAre};
+ghost use Rattle.own_river.specs.Sides.{width, sidesOf, filled, whereOther, kept, SidesAre};
 ghost use Rattle.own_river.specs.Ready.{OfSheet, Begun, Ready, Stepped};
 use lists::copy;
 use otis::River;
@@ -50,7 +50,7 @@ pub fn start(
 // Another flow than the one held comes into force: its set is filled off the sheet.
 fn fill_other(sheet: &[u8], held: u32, flow: u32, n: usize, sides: &mut [u32])
     requires { ⌜ OfSheet (now sheet) n × (flow ≤ flowRowCount (now sheet)) × (n ≤ width (now sides)) ⌝ }
-    ensures { λ _. ⌜ SidesAre (filledWhere held flow (entry sheet) (sidesOf (entry sides))) (entry sides) (exit sides) ⌝ }
+    ensures { λ _. ⌜ SidesAre (whereOther held flow (filled (entry sheet) flow) (sidesOf (entry sides))) (entry sides) (exit sides) ⌝ }
 {
     if held != flow {
         fill(sheet, flow, n, &mut sides[..]);
@@ -59,7 +59,7 @@ fn fill_other(sheet: &[u8], held: u32, flow: u32, n: usize, sides: &mut [u32])
 
 // Where one did, its set is then the old side's too.
 fn keep_other(held: u32, flow: u32, sides: &mut [u32])
-    ensures { λ _. ⌜ SidesAre (keptWhere held flow (sidesOf (entry sides))) (entry sides) (exit sides) ⌝ }
+    ensures { λ _. ⌜ SidesAre (whereOther held flow kept (sidesOf (entry sides))) (entry sides) (exit sides) ⌝ }
 {
     if held != flow {
         keep(&mut sides[..]);
