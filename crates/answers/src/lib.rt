@@ -2,7 +2,6 @@
 ghost use Rattle.std.specs.Prelude.{◌≡◌};
 ghost use Rattle.model.specs.Refusals.{passes};
 ghost use Rattle.terms.specs.Says.{place_says, finding_says};
-ghost use Rattle.lists.specs.Lent.{entry, exit};
 ghost use Rattle.assembly.specs.Says.{load_says};
 ghost use Rattle.boundary.specs.Says.{upstream_says};
 ghost use Rattle.otis.specs.Says.{answer_says, report_says};
@@ -44,9 +43,9 @@ fn number_of(at: Place) -> u32
 
 // The three numbers of a refusal.
 fn put_refusal(refusal: u32, at: Place, number: &mut u32, kind: &mut u32, place: &mut u32)
-    ensures number { exit number ≡ refusal }
-    ensures kind { exit kind ≡ kind_number (place_says at) }
-    ensures place { exit place ≡ place_number (place_says at) }
+    ensures number { number.new ≡ refusal }
+    ensures kind { kind.new ≡ kind_number (place_says at) }
+    ensures place { place.new ≡ place_number (place_says at) }
 {
     *number = refusal;
     *kind = kind_of(at);
@@ -60,8 +59,8 @@ pub fn put_load(
     place: &mut u32,
     loaded: &mut [u32; 9],
 )
-    ensures told { Told (found_by (load_says answer)) (exit number) (exit kind) (exit place) }
-    ensures values { exit loaded ≡ handed (load_says answer) loaded_values (entry loaded) }
+    ensures told { Told (found_by (load_says answer)) number.new kind.new place.new }
+    ensures values { loaded.new ≡ handed (load_says answer) loaded_values loaded.old }
 {
     match answer {
         Load::Loaded(v) => {
@@ -91,9 +90,9 @@ pub fn put_river(
     upstream: &mut u32,
     done: &mut u32,
 )
-    ensures told { Told (found_by (answer_says answer)) (exit number) (exit kind) (exit place) }
-    ensures upstream { exit upstream ≡ handed (answer_says answer) (λ v. v.upstream) (entry upstream) }
-    ensures done { exit done ≡ handed (answer_says answer) (λ v. v.steps) (entry done) }
+    ensures told { Told (found_by (answer_says answer)) number.new kind.new place.new }
+    ensures upstream { upstream.new ≡ handed (answer_says answer) (λ v. v.upstream) upstream.old }
+    ensures done { done.new ≡ handed (answer_says answer) (λ v. v.steps) done.old }
 {
     match answer {
         Answer::Accepted(river) => {
@@ -114,7 +113,7 @@ pub fn put_report(
     z: &mut u32,
     kdw: &mut u64,
 )
-    ensures { ReportHanded (report_says answer) (exit number) (exit kind) (exit place) (entry c) (entry z) (entry kdw) (exit c) (exit z) (exit kdw) }
+    ensures { ReportHanded (report_says answer) number.new kind.new place.new c.old z.old kdw.old c.new z.new kdw.new }
 {
     match answer {
         Report::Reported(figures) => {
@@ -134,8 +133,8 @@ pub fn put_upstream(
     place: &mut u32,
     u: &mut u32,
 )
-    ensures told { Told (found_by (upstream_says answer)) (exit number) (exit kind) (exit place) }
-    ensures u { exit u ≡ handed (upstream_says answer) (λ v. v) (entry u) }
+    ensures told { Told (found_by (upstream_says answer)) number.new kind.new place.new }
+    ensures u { u.new ≡ handed (upstream_says answer) (λ v. v) u.old }
 {
     match answer {
         Upstream::Figure(figure) => {
@@ -154,8 +153,8 @@ pub fn put_search(
     place: &mut u32,
     segment: &mut u32,
 )
-    ensures told { Told (found_by (search_says answer)) (exit number) (exit kind) (exit place) }
-    ensures segment { exit segment ≡ handed (search_says answer) segment_number (entry segment) }
+    ensures told { Told (found_by (search_says answer)) number.new kind.new place.new }
+    ensures segment { segment.new ≡ handed (search_says answer) segment_number segment.old }
 {
     match answer {
         Search::Found(i) => {
@@ -181,10 +180,10 @@ fn put_copies(
     upstream: &mut u32,
     done: &mut u32,
 )
-    ensures told { Told passes (exit number) (exit kind) (exit place) }
-    ensures above { exit above ≡ figure }
-    ensures upstream { exit upstream ≡ river.upstream }
-    ensures done { exit done ≡ river.steps }
+    ensures told { Told passes number.new kind.new place.new }
+    ensures above { above.new ≡ figure }
+    ensures upstream { upstream.new ≡ river.upstream }
+    ensures done { done.new ≡ river.steps }
 {
     *above = figure;
     *upstream = river.upstream;
@@ -202,10 +201,10 @@ pub fn put_forecast(
     upstream: &mut u32,
     done: &mut u32,
 )
-    ensures told { Told (found_by (forecast_says answer)) (exit number) (exit kind) (exit place) }
-    ensures above { exit above ≡ handed (forecast_says answer) (λ v. above_number v.found) (entry above) }
-    ensures upstream { exit upstream ≡ handed (forecast_says answer) (λ v. v.upstream) (entry upstream) }
-    ensures done { exit done ≡ handed (forecast_says answer) (λ v. v.steps) (entry done) }
+    ensures told { Told (found_by (forecast_says answer)) number.new kind.new place.new }
+    ensures above { above.new ≡ handed (forecast_says answer) (λ v. above_number v.found) above.old }
+    ensures upstream { upstream.new ≡ handed (forecast_says answer) (λ v. v.upstream) upstream.old }
+    ensures done { done.new ≡ handed (forecast_says answer) (λ v. v.steps) done.old }
 {
     match answer {
         Forecast::Above(river) => put_copies(1, river, number, kind, place, above, upstream, done),
@@ -228,7 +227,7 @@ pub fn finding_of(answer: Answer) -> Finding
 
 // A call that hands out no value.
 pub fn put_finding(found: Finding, number: &mut u32, kind: &mut u32, place: &mut u32)
-    ensures { Told (finding_says found) (exit number) (exit kind) (exit place) }
+    ensures { Told (finding_says found) number.new kind.new place.new }
 {
     match found {
         Finding::Passes => put_refusal(0, Place::Nothing, number, kind, place),

@@ -4,7 +4,7 @@ ghost use Rattle.model.specs.State.{Columns, column_lists};
 ghost use Rattle.model.specs.Refusals.{passes, test, first, answer};
 ghost use Rattle.model.specs.Load.{river_tests, list_tests, loaded, load_answer, columns_after, load_columns};
 ghost use Rattle.terms.specs.Says.{finding_says};
-ghost use Rattle.lists.specs.Lent.{entry, exit};
+ghost use Rattle.lists.specs.Lent.{plain};
 ghost use Rattle.terms.specs.Lent.{columns};
 ghost use Rattle.course.specs.Segments.{Read};
 ghost use Rattle.assembly.specs.Says.{loaded_says, load_says};
@@ -62,7 +62,7 @@ pub const TESTS: u32 = 13;
 // those before it pass. Behind the last nothing is at fault.
 pub fn kth_test(sheet: &[u8], k: u32) -> Finding
     requires { first (take k (river_tests sheet.now)) ≡ passes }
-    ensures { finding_says result ≡ get_or (river_tests (entry sheet)) k passes }
+    ensures { finding_says result ≡ get_or (river_tests sheet.now) k passes }
 {
     match k {
         0 => finding(1, edition(sheet) == 0),
@@ -84,7 +84,7 @@ pub fn kth_test(sheet: &[u8], k: u32) -> Finding
 
 // The first of them that fails decides.
 pub fn river_test(sheet: &[u8]) -> Finding
-    ensures { finding_says result ≡ first (river_tests (entry sheet)) }
+    ensures { finding_says result ≡ first (river_tests sheet.now) }
 {
     let mut k: u32 = 0;
     while k < TESTS {
@@ -105,8 +105,8 @@ pub fn list_test(
     records: usize,
     lengths: &[usize],
 ) -> Finding
-    ensures { (x : Columns) → map length (column_lists x) ≡ entry lengths →
-        finding_says result ≡ first (finding_says found ∷ list_tests (entry sheet) row records x) }
+    ensures { (x : Columns) → map length (column_lists x) ≡ lengths.now →
+        finding_says result ≡ first (finding_says found ∷ list_tests sheet.now row records x) }
 {
     if let Finding::Fails(number, place) = found {
         return Finding::Fails(number, place);
@@ -127,7 +127,7 @@ impl Loaded {
     // What an accepted loading answers.
     fn read(sheet: &[u8], n: usize) -> Loaded
         requires { Read sheet.now n }
-        ensures { loaded_says result ≡ loaded (entry sheet) }
+        ensures { loaded_says result ≡ loaded sheet.now }
     {
         Loaded {
             steps: steps(sheet),
@@ -163,10 +163,10 @@ impl Loaded {
         kd: &mut [u32],
         start: &mut [u32],
     ) -> Load
-        requires { finding_says found ≡ passes → Fit sheet.now row (columns (λ x. x.now) e g l a b k ks h m s cl cb kd start) }
-        ensures answer { load_says result ≡ answer (finding_says found) (loaded (entry sheet)) }
-        ensures lists { columns exit e g l a b k ks h m s cl cb kd start ≡ columns_after (answer (finding_says found) (loaded (entry sheet)))
-            (entry sheet) row (columns entry e g l a b k ks h m s cl cb kd start) }
+        requires { finding_says found ≡ passes → Fit sheet.now row (columns plain e.old g.old l.old a.old b.old k.old ks.old h.old m.old s.old cl.old cb.old kd.old start.old) }
+        ensures answer { load_says result ≡ answer (finding_says found) (loaded sheet.now) }
+        ensures lists { columns plain e.new g.new l.new a.new b.new k.new ks.new h.new m.new s.new cl.new cb.new kd.new start.new ≡ columns_after (answer (finding_says found) (loaded sheet.now))
+            sheet.now row (columns plain e.old g.old l.old a.old b.old k.old ks.old h.old m.old s.old cl.old cb.old kd.old start.old) }
     {
         match found {
             Finding::Passes => {
@@ -202,9 +202,9 @@ impl Loaded {
         kd: &mut [u32],
         start: &mut [u32],
     ) -> Load
-        ensures answer { load_says result ≡ load_answer (entry sheet) row records (columns entry e g l a b k ks h m s cl cb kd start) }
-        ensures lists { columns exit e g l a b k ks h m s cl cb kd start ≡ load_columns (entry sheet) row records
-            (columns entry e g l a b k ks h m s cl cb kd start) }
+        ensures answer { load_says result ≡ load_answer sheet.now row records (columns plain e.old g.old l.old a.old b.old k.old ks.old h.old m.old s.old cl.old cb.old kd.old start.old) }
+        ensures lists { columns plain e.new g.new l.new a.new b.new k.new ks.new h.new m.new s.new cl.new cb.new kd.new start.new ≡ load_columns sheet.now row records
+            (columns plain e.old g.old l.old a.old b.old k.old ks.old h.old m.old s.old cl.old cb.old kd.old start.old) }
     {
         let found = list_test(
             river_test(sheet),

@@ -6,7 +6,6 @@ ghost use Rattle.model.specs.Bands.{hydraulics_at, band_fault, overlap, begins, 
 ghost use Rattle.model.specs.Refusals as Document;
 ghost use Rattle.model.specs.Refusals.{test_each};
 ghost use Rattle.lists.specs.Lists.{any_below};
-ghost use Rattle.lists.specs.Lent.{entry};
 ghost use Rattle.terms.specs.Says.{finding_says, reach_says, hydraulics_say};
 ghost use Rattle.bands.specs.Bands.{count_on, band_says, bands_say, far, Standing};
 ghost use Rattle.sheet.specs.Walks.{Walked};
@@ -39,7 +38,7 @@ const WIDTH: usize = SIZE * BANDS.width as usize;
 
 // The count that stands there, on a sheet that has the section.
 fn count_at(sheet: &[u8], at: usize) -> u32
-    ensures { result ≡ count_on (entry sheet) at }
+    ensures { result ≡ count_on sheet.now at }
 {
     if edition(sheet) < 3 {
         return 0;
@@ -83,7 +82,7 @@ fn overlap(x: Band, y: Band) -> bool
 impl Bands {
     // Those of the first reach.
     pub fn first(sheet: &[u8]) -> Bands
-        ensures { Standing (entry sheet) 0 result }
+        ensures { Standing sheet.now 0 result }
     {
         let at = band_count_at(sheet);
         Bands {
@@ -95,7 +94,7 @@ impl Bands {
     // Those of the reach below reach i, from 0: on a sheet without bands there is nowhere to go.
     pub fn below(self, sheet: &[u8], i: u32) -> Bands
         requires { Walked sheet.now × Standing sheet.now i self × (i < reach_count sheet.now) }
-        ensures { Standing (entry sheet) (suc i) result }
+        ensures { Standing sheet.now (suc i) result }
     {
         if edition(sheet) < 3 {
             return self;
@@ -110,7 +109,7 @@ impl Bands {
     // Band j.
     fn band(self, sheet: &[u8], j: u32) -> Band
         requires { self.at < far }
-        ensures { band_says result ≡ (bands_say (entry sheet) self).band j }
+        ensures { band_says result ≡ (bands_say sheet.now self).band j }
     {
         let at = self.at + SIZE + WIDTH * (j as usize);
         Band {
@@ -127,7 +126,7 @@ impl Bands {
     // A, D and AS of the band that holds the flow, where none does the reach's own.
     pub fn hydraulics_at(self, sheet: &[u8], own: Reach, q: u64) -> Hydraulics
         requires { self.at < far }
-        ensures { hydraulics_say result ≡ hydraulics_at (bands_say (entry sheet) self) (reach_says own) q }
+        ensures { hydraulics_say result ≡ hydraulics_at (bands_say sheet.now self) (reach_says own) q }
     {
         let mut at = self.at + SIZE;
         let mut j: u32 = 0;
@@ -152,7 +151,7 @@ impl Bands {
     // A band begins with this flow.
     fn begins(self, sheet: &[u8], q: u32) -> bool
         requires { self.at < far }
-        ensures { result ≡ begins (bands_say (entry sheet) self) q }
+        ensures { result ≡ begins (bands_say sheet.now self) q }
     {
         let mut j: u32 = 0;
         while j < self.count {
@@ -167,7 +166,7 @@ impl Bands {
     // This band overlaps with one of the first i.
     fn overlaps(self, sheet: &[u8], band: Band, i: u32) -> bool
         requires { self.at < far }
-        ensures { result ≡ any_below i (λ j. overlap (band_says band) ((bands_say (entry sheet) self).band j)) }
+        ensures { result ≡ any_below i (λ j. overlap (band_says band) ((bands_say sheet.now self).band j)) }
     {
         let mut j: u32 = 0;
         while j < i {
@@ -182,7 +181,7 @@ impl Bands {
     // The flow behind this band is one that has to be covered, and no band begins with it.
     fn gap_behind(self, sheet: &[u8], band: Band) -> bool
         requires { self.at < far }
-        ensures { result ≡ gap_behind (bands_say (entry sheet) self) (band_says band) }
+        ensures { result ≡ gap_behind (bands_say sheet.now self) (band_says band) }
     {
         if FLOW.high <= band.highest {
             return false;
@@ -193,7 +192,7 @@ impl Bands {
     // Band i is at fault.
     fn broken_at(self, sheet: &[u8], i: u32) -> bool
         requires { self.at < far }
-        ensures { result ≡ broken_at (bands_say (entry sheet) self) i }
+        ensures { result ≡ broken_at (bands_say sheet.now self) i }
     {
         let band = self.band(sheet, i);
         if band_fault(band) {
@@ -208,7 +207,7 @@ impl Bands {
     // 19, of one reach.
     fn fault(self, sheet: &[u8]) -> bool
         requires { self.at < far }
-        ensures { result ≡ bands_fault (bands_say (entry sheet) self) }
+        ensures { result ≡ bands_fault (bands_say sheet.now self) }
     {
         if self.count == 0 {
             return false;
@@ -230,7 +229,7 @@ impl Bands {
 // 19. "a band is out of range or reversed, two bands overlap or a flow has none (reach)".
 pub fn bands_test(sheet: &[u8]) -> Finding
     requires { Walked sheet.now }
-    ensures { let s = entry sheet in finding_says result ≡ test_each 19 Document.reach (reach_count s) (λ i. bands_fault (bands_on s i)) }
+    ensures { let s = sheet.now in finding_says result ≡ test_each 19 Document.reach (reach_count s) (λ i. bands_fault (bands_on s i)) }
 {
     let count = reach_count(sheet);
     let mut bands = Bands::first(sheet);

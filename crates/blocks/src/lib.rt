@@ -1,7 +1,6 @@
 // The highest channel figure of each sixteen segments, which a start or a step leaves beside the lists. Sixteen segments are a block.
 ghost use Rattle.std.specs.Prelude.{◌≡◌, ◌+◌, ◌≤◌, length, get_or};
 ghost use Rattle.lists.specs.Lists.{over, highest_below};
-ghost use Rattle.lists.specs.Lent.{entry, exit};
 ghost use Rattle.model.specs.Ranges.{most_segments};
 ghost use Rattle.model.specs.Highest.{block_count, highest_of};
 
@@ -20,7 +19,7 @@ pub fn count(n: u32) -> usize
 // The highest of `count` figures from `from` on.
 fn highest_from(channel: &[u32], from: usize, count: usize) -> u32
     requires { from + count ≤ length channel.now }
-    ensures { result ≡ highest_below count (λ j. get_or (entry channel) (from + j) 0) }
+    ensures { result ≡ highest_below count (λ j. get_or channel.now (from + j) 0) }
 {
     let mut top: u32 = 0;
     let mut j: usize = 0;
@@ -34,7 +33,7 @@ fn highest_from(channel: &[u32], from: usize, count: usize) -> u32
 // Writes the highest figure of each block of n segments over the first entries of the list; the last block may not be full.
 pub fn fill(n: usize, channel: &[u32], highest: &mut [u32])
     requires { (n ≤ most_segments) × (n ≤ length channel.now) × (block_count n ≤ length highest.old) }
-    ensures { exit highest ≡ over (highest_of n (entry channel)) (entry highest) }
+    ensures { highest.new ≡ over (highest_of n channel.now) highest.old }
 {
     let mut b: usize = 0;
     let mut from: usize = 0;

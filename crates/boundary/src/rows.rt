@@ -5,7 +5,6 @@ ghost use Rattle.model.specs.Refusals.{first};
 ghost use Rattle.model.specs.Load.{row_fault};
 ghost use Rattle.model.specs.Upstream.{upstream_at, upstream_tests, upstream_answer};
 ghost use Rattle.terms.specs.Says.{finding_says};
-ghost use Rattle.lists.specs.Lent.{entry};
 ghost use Rattle.lists.specs.Lists.{lowest};
 ghost use Rattle.boundary.specs.Says.{upstream_says};
 
@@ -17,7 +16,7 @@ use terms::{Finding, Place};
 // The lowest row at fault, counting from 0, or the count of rows.
 fn row_at_fault(starts: &[u32], concentrations: &[u32], steps: u32) -> usize
     requires { (length starts.now ≤ length concentrations.now) × (length starts.now ≤ row_section.counts.high) }
-    ensures { result ≡ lowest (length (entry starts)) (row_fault steps (entry starts) (entry concentrations)) }
+    ensures { result ≡ lowest (length starts.now) (row_fault steps starts.now concentrations.now) }
 {
     let mut before: u32 = 0;
     let mut i: usize = 0;
@@ -41,7 +40,7 @@ fn latest(j: u32, found: u32, start: u32, concentration: u32) -> u32
 // "that of the last row starting at or before j"
 fn last_started(starts: &[u32], concentrations: &[u32], j: u32) -> u32
     requires { length starts.now ≤ length concentrations.now }
-    ensures { result ≡ upstream_at j (entry starts) (entry concentrations) }
+    ensures { result ≡ upstream_at j starts.now concentrations.now }
 {
     let mut found: u32 = 0;
     let mut i: usize = 0;
@@ -64,7 +63,7 @@ fn count_fault(starts: usize, concentrations: usize) -> bool
 
 // "It tests their count (3, also for two lists of different length), then the rows (8)."
 fn rows_test(starts: &[u32], concentrations: &[u32], steps: u32) -> Finding
-    ensures { finding_says result ≡ first (upstream_tests steps (entry starts) (entry concentrations)) }
+    ensures { finding_says result ≡ first (upstream_tests steps starts.now concentrations.now) }
 {
     if count_fault(starts.len(), concentrations.len()) {
         return Finding::Fails(3, Place::Nothing);
@@ -78,7 +77,7 @@ fn rows_test(starts: &[u32], concentrations: &[u32], steps: u32) -> Finding
 
 // U at step j of the rows, for M steps.
 pub fn upstream(starts: &[u32], concentrations: &[u32], steps: u32, j: u32) -> Upstream
-    ensures { upstream_says result ≡ upstream_answer steps j (entry starts) (entry concentrations) }
+    ensures { upstream_says result ≡ upstream_answer steps j starts.now concentrations.now }
 {
     let found = rows_test(starts, concentrations, steps);
     match found {

@@ -4,7 +4,7 @@ ghost use Rattle.model.specs.Ranges.{most_segments};
 ghost use Rattle.model.specs.Refusals.{segment, first};
 ghost use Rattle.model.specs.Calls.{start_tests};
 ghost use Rattle.terms.specs.Says.{place_says, finding_says};
-ghost use Rattle.lists.specs.Lent.{entry};
+ghost use Rattle.lists.specs.Lent.{plain};
 ghost use Rattle.terms.specs.Lent.{columns_of, state};
 ghost use Rattle.calltests.specs.Tests.{state_tests};
 
@@ -36,7 +36,7 @@ pub fn start_test(
     u: u32,
 ) -> Finding
     ensures { finding_says result ≡ first (start_tests n (columns_of numbers.entry fixed.entry)
-        (state entry channel storage sediment 0 0) (entry highest) u) }
+        (state plain channel.now storage.now sediment.now 0 0) highest.now u) }
 {
     if river_fault(n, numbers, fixed, channel, storage, sediment) {
         return Finding::Fails(13, Place::Nothing);
@@ -72,7 +72,7 @@ pub fn state_test(
     steps: u32,
 ) -> Finding
     ensures { finding_says result ≡ first (state_tests n (columns_of numbers.entry fixed.entry)
-        (state entry channel storage sediment upstream done) unfit other u steps) }
+        (state plain channel.now storage.now sediment.now upstream done) unfit other u steps) }
 {
     if river_fault(n, numbers, fixed, channel, storage, sediment) {
         return Finding::Fails(13, Place::Nothing);

@@ -4,7 +4,7 @@ ghost use Rattle.lists.specs.Lists.{lowest};
 ghost use Rattle.model.specs.Ranges.{most_segments};
 ghost use Rattle.model.specs.State.{set_lists, column_lists, figures_at};
 ghost use Rattle.model.specs.Calls.{river_fault, figure_fault, start_fault, old_fault};
-ghost use Rattle.lists.specs.Lent.{entry};
+ghost use Rattle.lists.specs.Lent.{plain};
 ghost use Rattle.terms.specs.Lent.{set_of, columns_of, state, LongSet, Long, LongFigures};
 
 use crate::figures::{figure_fault, numbers_fault, segment_fault};
@@ -21,8 +21,8 @@ pub fn river_fault(
     storage: &[u32],
     sediment: &[u32],
 ) -> bool
-    ensures { result ≡ river_fault n (column_lists (columns_of numbers.entry fixed.entry) ++ entry channel ∷ entry storage
-        ∷ entry sediment ∷ []) }
+    ensures { result ≡ river_fault n (column_lists (columns_of numbers.entry fixed.entry) ++ channel.now ∷ storage.now
+        ∷ sediment.now ∷ []) }
 {
     if outside(SEGMENTS, n as u64) {
         return true;
@@ -107,7 +107,7 @@ pub fn segment_at_fault(n: usize, numbers: Set, fixed: Fixed) -> usize
 // The lowest segment whose figures are at fault, counting from 0, or n.
 pub fn figures_at_fault(n: usize, channel: &[u32], storage: &[u32], sediment: &[u32]) -> usize
     requires { LongFigures n channel.now storage.now sediment.now }
-    ensures { result ≡ lowest n (λ i. figure_fault (figures_at (state entry channel storage sediment 0 0) i)) }
+    ensures { result ≡ lowest n (λ i. figure_fault (figures_at (state plain channel.now storage.now sediment.now 0 0) i)) }
 {
     let mut i: usize = 0;
     while i < n {

@@ -2,7 +2,7 @@
 ghost use Rattle.std.specs.Prelude.{◌≡◌};
 ghost use Rattle.model.specs.Flow.{course_of};
 ghost use Rattle.model.specs.State.{loaded_segments, write_segments};
-ghost use Rattle.lists.specs.Lent.{entry, exit};
+ghost use Rattle.lists.specs.Lent.{plain};
 ghost use Rattle.terms.specs.Lent.{columns, Long};
 ghost use Rattle.course.specs.Segments.{Clear, Read};
 
@@ -31,9 +31,9 @@ pub fn fill(
     kd: &mut [u32],
     start: &mut [u32],
 )
-    requires { Read sheet.now n × Clear 13 n (course_of sheet.now row) × Long n (columns (λ x. x.now) e g l a b k ks h m s cl cb kd start) }
-    ensures { columns exit e g l a b k ks h m s cl cb kd start ≡ write_segments (loaded_segments (entry sheet) row)
-        (columns entry e g l a b k ks h m s cl cb kd start) }
+    requires { Read sheet.now n × Clear 13 n (course_of sheet.now row) × Long n (columns plain e.old g.old l.old a.old b.old k.old ks.old h.old m.old s.old cl.old cb.old kd.old start.old) }
+    ensures { columns plain e.new g.new l.new a.new b.new k.new ks.new h.new m.new s.new cl.new cb.new kd.new start.new ≡ write_segments (loaded_segments sheet.now row)
+        (columns plain e.old g.old l.old a.old b.old k.old ks.old h.old m.old s.old cl.old cb.old kd.old start.old) }
 {
     let top = top_of(sheet, row);
     let dt = dt(sheet);

@@ -4,7 +4,6 @@
 ghost use Rattle.std.specs.Prelude.{◌≡◌, ◌<◌};
 ghost use Rattle.model.specs.Sheet.{reach_count};
 ghost use Rattle.model.specs.HalfStep.{ad};
-ghost use Rattle.lists.specs.Lent.{entry};
 ghost use Rattle.terms.specs.Says.{reach_says, hydraulics_say};
 ghost use Rattle.sheet.specs.Walks.{Walked};
 ghost use Rattle.bands.specs.Bands.{Standing};
@@ -41,7 +40,7 @@ fn arrive(
     gain: i64,
 ) -> Cursor
     requires { Arrives dx own table gain }
-    ensures { Arrived (entry sheet) top dx number passed own table gain result }
+    ensures { Arrived sheet.now top dx number passed own table gain result }
 {
     let flow = flow(top, gain, own, dx);
     Cursor {
@@ -57,7 +56,7 @@ impl Cursor {
     // The first segment, of this reach with these bands.
     pub fn first(sheet: &[u8], top: u32, dx: u32, own: Reach, table: Bands) -> Cursor
         requires { Begun sheet.now dx own table }
-        ensures { At (entry sheet) top 0 own result }
+        ensures { At sheet.now top 0 own result }
     {
         arrive(sheet, top, dx, 0, 0, own, table, 0)
     }
@@ -65,7 +64,7 @@ impl Cursor {
     // The reach of the segment below, where this one's is `own`.
     pub fn reach_below(self, sheet: &[u8], own: Reach) -> Reach
         requires { self.passed < own.segments }
-        ensures { reach_says result ≡ reach_below (entry sheet) own self }
+        ensures { reach_says result ≡ reach_below sheet.now own self }
     {
         if self.passed + 1 < own.segments {
             return own;
@@ -77,7 +76,7 @@ impl Cursor {
     pub fn bands_below(self, sheet: &[u8], own: Reach, table: Bands) -> Bands
         requires { Walked sheet.now × (self.passed < own.segments) × Standing sheet.now self.number table
             × (self.number < reach_count sheet.now) }
-        ensures { Standing (entry sheet) (number_below own self) result }
+        ensures { Standing sheet.now (number_below own self) result }
     {
         if self.passed + 1 < own.segments {
             return table;
@@ -98,7 +97,7 @@ impl Cursor {
         table: Bands,
     ) -> Cursor
         requires { Lower sheet.now top dx n i own lower table self }
-        ensures { Below (entry sheet) top n i lower table result }
+        ensures { Below sheet.now top n i lower table result }
     {
         if i + 1 == n {
             return self;

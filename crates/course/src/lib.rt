@@ -6,7 +6,6 @@ ghost use Rattle.model.specs.HalfStep.{site_at};
 ghost use Rattle.model.specs.Refusals.{segment, test_each};
 ghost use Rattle.model.specs.Load.{test_flows};
 ghost use Rattle.terms.specs.Says.{finding_says};
-ghost use Rattle.lists.specs.Lent.{entry};
 ghost use Rattle.halfstep.specs.Site.{site_says};
 ghost use Rattle.course.specs.Segments.{site_fault, Clear, ClearFlows, ClearSite, Read};
 
@@ -35,7 +34,7 @@ fn fault(number: u32, site: Site) -> bool
 // Test 10, 11 or 12 over the whole river with the flow of this row: "the lowest at fault".
 fn course_test(sheet: &[u8], row: u32, n: usize, number: u32) -> Finding
     requires { Read sheet.now n × (10 ≤ number) × Clear number n (course_of sheet.now row) }
-    ensures { finding_says result ≡ test_each number segment n (λ i. site_fault number (site_at (course_of (entry sheet) row) i)) }
+    ensures { finding_says result ≡ test_each number segment n (λ i. site_fault number (site_at (course_of sheet.now row) i)) }
 {
     let top = top_of(sheet, row);
     let dt = dt(sheet);
@@ -65,7 +64,7 @@ fn course_test(sheet: &[u8], row: u32, n: usize, number: u32) -> Finding
 // The test "made for the top flow and then for every row in turn"; "the first flow at fault gives the place".
 pub fn flows_test(sheet: &[u8], n: usize, number: u32) -> Finding
     requires { Read sheet.now n × (10 ≤ number) × ClearFlows number n sheet.now }
-    ensures { let s = entry sheet in finding_says result ≡ test_flows (flow_row_count s)
+    ensures { let s = sheet.now in finding_says result ≡ test_flows (flow_row_count s)
         (λ row. test_each number segment n (λ i. site_fault number (site_at (course_of s row) i))) }
 {
     let rows = flow_row_count(sheet);

@@ -13,7 +13,7 @@ use Rattle.model.specs.Equations.{Figures}
 use Rattle.model.specs.ExactRiver.{ExactFigures}
 use Rattle.model.specs.State.{NumberSet, Columns, loaded_segments, State, figures_of, write_figures}
 use Rattle.model.specs.Refusals.{Finding, passes, fails, is_accepted, first, answer, left_after}
-use Rattle.model.specs.Calls.{Working, start_tests, start_left, step_tests, step_left, Call, start, step, report, call_tests, call_values, call_left, call_lent, result}
+use Rattle.model.specs.Calls.{Working, start_tests, start_left, step_tests, step_left, Call, start, step, report, call_tests, call_values, call_left, call_lent, call_result}
 use Rattle.model.specs.Runs.{LoneCall, alone, accepts, after, run, AsLoaded, PairAsLoaded, LentFrom, Fed, started, moved, event, events, Exact, exact_start, sheet_pairs, ExactEvent, ExactRun}
 use Rattle.exact_laws.specs.Close.{Close}
 use Rattle.exact_laws.proofs.Close.{start-close, close-length}
@@ -80,7 +80,7 @@ module _ (sheet : List ℕ) where
   -- any call
   pub call-good : (state : State) (call : LoneCall) (q r : Exact) → (T (accepts state call) → LentFrom sheet state call) → Good state q →
       ExactEvent sheet (event (accepts state call) call) q r → Good (after state call) r
-  unfolding accepts after result
+  unfolding accepts after call_result
   call-good state (alone n call) q r lists g x = go (first (call_tests n state call)) r refl lists x
     where
       go : (t : Finding) (r : Exact) → first (call_tests n state call) ≡ t → (T (is_accepted (answer t (call_values state call))) → LentFrom sheet state (alone n call)) →
@@ -99,7 +99,7 @@ module _ (sheet : List ℕ) where
   pub begin-good : (state : State) (n : ℕ) (columns : Columns) (highest : List ℕ) (u : ℕ) (q r : Exact) →
       let call = alone n (start columns highest u) in
       T (accepts state call) → AsLoaded sheet n columns → ExactEvent sheet (event (accepts state call) call) q r → Good (after state call) r
-  unfolding accepts after result
+  unfolding accepts after call_result
   begin-good state n columns highest u q r a lists x = go (first (start_tests n columns state highest u)) refl a x
     where
       go : (t : Finding) → first (start_tests n columns state highest u) ≡ t → T (is_accepted (answer t (call_values state (start columns highest u)))) →

@@ -9,7 +9,7 @@ use Rattle.model.specs.Sheet.{segment_count}
 use Rattle.model.specs.HalfStep.{Segment}
 use Rattle.model.specs.State.{Columns, column_lists, State, state_lists, figures_at}
 use Rattle.model.specs.Refusals.{accepted}
-use Rattle.model.specs.Calls.{river_fault, Reported, reported, report_tests, report, result}
+use Rattle.model.specs.Calls.{river_fault, Reported, reported, report_tests, report, call_result}
 use Rattle.model.specs.Runs.{AsLoaded}
 use Rattle.model.specs.Claim.{FiguresOf}
 use Rattle.model.proofs.Ranges.{inside}
@@ -17,8 +17,8 @@ use Rattle.model.proofs.Refusals.{all_pass, test-clear, accepted-passes, accepte
 use Rattle.loading_laws.proofs.AsLoaded.{segment-as-loaded, same-kd}
 
 pub report-figures : {sheet : List ℕ} {n : ℕ} {columns : Columns} (state : State) (number : ℕ) (v : Reported) → AsLoaded sheet n columns →
-    (result n state (report columns number)).answer ≡ accepted v → FiguresOf sheet state number v
-unfolding result report_tests reported
+    (call_result n state (report columns number)).answer ≡ accepted v → FiguresOf sheet state number v
+unfolding call_result report_tests reported
 report-figures {sheet} {n} {columns} state number v loaded e =
     let lists = loaded.lists in
     let tests = report_tests n columns state number in

@@ -1,7 +1,7 @@
 // When will it reach the gate? A forecast copies the state, and steps the copies ahead with U' and the sets that the sheet gives for each step.
 ghost use Rattle.std.specs.Prelude.{◌≡◌, not, cond, ◌||◌, ℕ, ◌+◌, ◌*◌, ◌<◌, ◌≤◌, eqb, ltb, length, get_or};
 ghost use Rattle.lists.specs.Lists.{any_under, any_below};
-ghost use Rattle.lists.specs.Lent.{entry, exit};
+ghost use Rattle.lists.specs.Lent.{plain};
 ghost use Rattle.model.specs.Ranges.{◌to◌, outside, most_segments};
 ghost use Rattle.model.specs.Sheet.{gauge_count, gauges, steps_m};
 ghost use Rattle.model.specs.Highest.{block_count};
@@ -39,7 +39,7 @@ pub enum Forecast {
 
 // One of the sheet's gauges is at this segment.
 fn on_sheet(sheet: &[u8], segment: u32) -> bool
-    ensures { result ≡ any_below (gauge_count (entry sheet)) (λ j. eqb (get_or (gauges (entry sheet)) j 0) segment) }
+    ensures { result ≡ any_below (gauge_count sheet.now) (λ j. eqb (get_or (gauges sheet.now) j 0) segment) }
 {
     let count = gauge_count(sheet) as usize;
     let mut j: usize = 0;
@@ -54,7 +54,7 @@ fn on_sheet(sheet: &[u8], segment: u32) -> bool
 
 // 20. "present step plus horizon" is added up in 64 bits.
 fn forecast_fault(sheet: &[u8], done: u32, segment: u32, limit: u32, horizon: u32) -> bool
-    ensures { result ≡ forecast_fault (entry sheet) done (question segment limit horizon) }
+    ensures { result ≡ forecast_fault sheet.now done (question segment limit horizon) }
 {
     if on_sheet(sheet, segment) {
         return (steps(sheet) as u64) < (done as u64) + (horizon as u64);
@@ -71,7 +71,7 @@ fn lent_fault(
     sides: usize,
     count: usize,
 ) -> bool
-    ensures { result ≡ (outside (1 to most_segments) n || any_under n (entry lists) || ltb highest (block_count n) || ltb highest1 (block_count n)
+    ensures { result ≡ (outside (1 to most_segments) n || any_under n lists.now || ltb highest (block_count n) || ltb highest1 (block_count n)
         || ltb sides (side_lists * n) || not (eqb count n)) }
 {
     if outside(SEGMENTS, n as u64) {
@@ -112,9 +112,9 @@ fn ahead_test(
     limit: u32,
     horizon: u32,
 ) -> Finding
-    ensures { (upstream steps : ℕ) → finding_says result ≡ first (ahead_tests (entry sheet)
-        (live_river n (state entry channel storage sediment river.upstream river.steps) (entry highest))
-        (room (state entry channel1 storage1 sediment1 upstream steps) (entry highest1) (entry sides) (working entry p y)) (question gauge limit horizon)) }
+    ensures { (upstream steps : ℕ) → finding_says result ≡ first (ahead_tests sheet.now
+        (live_river n (state plain channel.now storage.now sediment.now river.upstream river.steps) highest.now)
+        (room (state plain channel1.now storage1.now sediment1.now upstream steps) highest1.now sides.now (working plain p.now y.now)) (question gauge limit horizon)) }
 {
     if lent_fault(
         n,
@@ -170,10 +170,10 @@ fn run(
     limit: u32,
     horizon: u32,
 ) -> River
-    requires { Ready sheet.now n sides.old (state (λ x. x.now) channel storage sediment river.upstream river.steps) (working (λ x. x.now) p y)
+    requires { Ready sheet.now n sides.old (state plain channel.old storage.old sediment.old river.upstream river.steps) (working plain p.old y.old)
         × (river.steps + horizon ≤ steps_m sheet.now) × (at < n) }
-    ensures { Ran (entry sheet) (entry sides) (state entry channel storage sediment river.upstream river.steps) (working entry p y) at limit horizon
-        (exit sides) (state exit channel storage sediment result.upstream result.steps) (working exit p y) }
+    ensures { Ran sheet.now sides.old (state plain channel.old storage.old sediment.old river.upstream river.steps) (working plain p.old y.old) at limit horizon
+        sides.new (state plain channel.new storage.new sediment.new result.upstream result.steps) (working plain p.new y.new) }
 {
     let mut river = river;
     let mut left = due(channel[at], limit, horizon);
@@ -199,7 +199,7 @@ fn run(
 // The highest figures of n segments: as they are lent where no step was made, else those of the copies.
 fn copy_highest(made: u32, n: usize, highest: &[u32], channel: &[u32], highest1: &mut [u32])
     requires { (n ≤ most_segments) × (block_count n ≤ length highest.now) × (n ≤ length channel.now) × (block_count n ≤ length highest1.old) }
-    ensures { exit highest1 ≡ copied_highest n (entry highest) (entry channel) (entry highest1) made }
+    ensures { highest1.new ≡ copied_highest n highest.now channel.now highest1.old made }
 {
     if made == 0 {
         copy(blocks::count(n as u32), highest, &mut highest1[..]);
@@ -238,11 +238,11 @@ fn look(
     limit: u32,
     horizon: u32,
 ) -> Forecast
-    requires { Fit sheet.now (live_river n (state (λ x. x.now) channel storage sediment river.upstream river.steps) highest.now)
-        (room (state (λ x. x.now) channel1 storage1 sediment1 0 0) highest1.old sides.old (working (λ x. x.now) p y)) (question gauge limit horizon) }
-    ensures { Looked (entry sheet) (live_river n (state entry channel storage sediment river.upstream river.steps) (entry highest))
-        (room (state entry channel1 storage1 sediment1 0 0) (entry highest1) (entry sides) (working entry p y)) (question gauge limit horizon)
-        (forecast_says result) (exit channel1) (exit storage1) (exit sediment1) (exit highest1) (exit sides) (working exit p y) }
+    requires { Fit sheet.now (live_river n (state plain channel.now storage.now sediment.now river.upstream river.steps) highest.now)
+        (room (state plain channel1.old storage1.old sediment1.old 0 0) highest1.old sides.old (working plain p.old y.old)) (question gauge limit horizon) }
+    ensures { Looked sheet.now (live_river n (state plain channel.now storage.now sediment.now river.upstream river.steps) highest.now)
+        (room (state plain channel1.old storage1.old sediment1.old 0 0) highest1.old sides.old (working plain p.old y.old)) (question gauge limit horizon)
+        (forecast_says result) channel1.new storage1.new sediment1.new highest1.new sides.new (working plain p.new y.new) }
 {
     copy(n, channel, &mut channel1[..]);
     copy(n, storage, &mut storage1[..]);
@@ -295,12 +295,12 @@ fn behind(
 ) -> Forecast
     requires { first (river_tests sheet.now) ≡ passes }
     ensures result { (upstream steps : ℕ) →
-        let live = live_river n (state entry channel storage sediment river.upstream river.steps) (entry highest) in
-        let lent = room (state entry channel1 storage1 sediment1 upstream steps) (entry highest1) (entry sides) (working entry p y) in
+        let live = live_river n (state plain channel.now storage.now sediment.now river.upstream river.steps) highest.now in
+        let lent = room (state plain channel1.old storage1.old sediment1.old upstream steps) highest1.old sides.old (working plain p.old y.old) in
         let asked = question gauge limit horizon in
-        result_left (forecast_says result) (state exit channel1 storage1 sediment1) upstream steps (exit highest1) (working exit p y)
-        ≡ forecast_of (ahead_tests (entry sheet) live lent asked) (entry sheet) live lent asked }
-    ensures sides { SidesLeft (forecast_says result) (entry sheet) (entry sides) (exit sides) }
+        result_left (forecast_says result) (state plain channel1.new storage1.new sediment1.new) upstream steps highest1.new (working plain p.new y.new)
+        ≡ forecast_of (ahead_tests sheet.now live lent asked) sheet.now live lent asked }
+    ensures sides { SidesLeft (forecast_says result) sheet.now sides.old sides.new }
 {
     let test = ahead_test(
         river,
@@ -367,10 +367,10 @@ pub fn alone(
     horizon: u32,
 ) -> Forecast
     ensures result { (upstream steps : ℕ) →
-        result_left (forecast_says result) (state exit channel1 storage1 sediment1) upstream steps (exit highest1) (working exit p y)
-        ≡ forecast (entry sheet) (live_river n (state entry channel storage sediment river.upstream river.steps) (entry highest))
-        (room (state entry channel1 storage1 sediment1 upstream steps) (entry highest1) (entry sides) (working entry p y)) (question gauge limit horizon) }
-    ensures sides { SidesLeft (forecast_says result) (entry sheet) (entry sides) (exit sides) }
+        result_left (forecast_says result) (state plain channel1.new storage1.new sediment1.new) upstream steps highest1.new (working plain p.new y.new)
+        ≡ forecast sheet.now (live_river n (state plain channel.now storage.now sediment.now river.upstream river.steps) highest.now)
+        (room (state plain channel1.old storage1.old sediment1.old upstream steps) highest1.old sides.old (working plain p.old y.old)) (question gauge limit horizon) }
+    ensures sides { SidesLeft (forecast_says result) sheet.now sides.old sides.new }
 {
     let test = river_test(sheet);
     if let Finding::Fails(number, place) = test {
@@ -404,10 +404,10 @@ pub fn on_pool(
     horizon: u32,
 ) -> Forecast
     ensures result { (upstream steps : ℕ) →
-        result_left (forecast_says result) (state exit channel1 storage1 sediment1) upstream steps (exit highest1) (working exit p y)
-        ≡ pool_forecast (entry sheet) (pool entry channel storage sediment table) river (entry highest)
-        (room (state entry channel1 storage1 sediment1 upstream steps) (entry highest1) (entry sides) (working entry p y)) (question gauge limit horizon) }
-    ensures sides { SidesLeft (forecast_says result) (entry sheet) (entry sides) (exit sides) }
+        result_left (forecast_says result) (state plain channel1.new storage1.new sediment1.new) upstream steps highest1.new (working plain p.new y.new)
+        ≡ pool_forecast sheet.now (pool plain channel.now storage.now sediment.now table.now) river highest.now
+        (room (state plain channel1.old storage1.old sediment1.old upstream steps) highest1.old sides.old (working plain p.old y.old)) (question gauge limit horizon) }
+    ensures sides { SidesLeft (forecast_says result) sheet.now sides.old sides.new }
 {
     let test = river_test(sheet);
     if let Finding::Fails(number, place) = test {

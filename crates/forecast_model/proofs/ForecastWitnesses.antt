@@ -23,7 +23,7 @@ use Rattle.model.specs.Refusals.{accepted, passes, first}
 use Rattle.model.specs.Load.{river_tests, flow_row_fault, test_flows, walk, starts_late, row_fault, gauge_fault, flow_fault, face_fault, sum_fault, sheet_tests, course_tests, list_tests, load_tests, loaded, load_answer, load_columns}
 use Rattle.model.specs.Highest.{block_highest, blocks_fault}
 use Rattle.model.specs.Upstream.{upstream_at}
-use Rattle.model.specs.Calls.{Reported, river_fault, numbers_fault, segment_fault, figure_fault, start_fault, state_fault, held_fault, report_tests, reported, report, result}
+use Rattle.model.specs.Calls.{Reported, river_fault, numbers_fault, segment_fault, figure_fault, start_fault, state_fault, held_fault, report_tests, reported, report, call_result}
 use Rattle.model.specs.Runs.{LoneCall, run, AsLoaded, events}
 use Rattle.model.specs.Claim.{Near}
 use Rattle.model.specs.OwnRiver.{rows_upstream, own_step, ahead, own_working, working_ahead}
@@ -60,8 +60,8 @@ record WorkedOut : Type 0 where
   -- reports
   lent : AsLoaded thaw (segment_count thaw) thaw_columns
   long : any_shorter (segment_count thaw) (column_lists thaw_columns) ≡ false
-  now : (result (segment_count thaw) thawing.state (report thaw_columns 1)).answer ≡ accepted (record { channel = 900; storage = 350; sediment = 960 })
-  later : (result (segment_count thaw) next_state (report thaw_columns 1)).answer ≡ accepted (record { channel = 1574; storage = 405; sediment = 1461 })
+  now : (call_result (segment_count thaw) thawing.state (report thaw_columns 1)).answer ≡ accepted (record { channel = 900; storage = 350; sediment = 960 })
+  later : (call_result (segment_count thaw) next_state (report thaw_columns 1)).answer ≡ accepted (record { channel = 1574; storage = 405; sediment = 1461 })
   -- the figures of the live river are not those one step on
   moved : figures_of (segment_count thaw) (record { channel = 900 ∷ 400 ∷ []; storage = 350 ∷ 310 ∷ []; sediment = 320 ∷ 305 ∷ []; upstream = 5000; steps = 2 })
       ≡ figures_of (segment_count thaw) next_state → ⊥
@@ -78,7 +78,7 @@ first-c [] = 0
 first-c (f ∷ fs) = f.c
 
 worked-out : WorkedOut
-unfolding lowest_from lowest any_shorter not_rising any_below highest_below nearest floor_div outside any_outside flow_row_start flow_row_top flow_row_starts flow_row_tops sections edition starts_with field header_field section_end sections_end count_at sheet_end flow_row_count record_field reach_fields reach_of reach_on reaches row_starts row_concentrations gauges total_segments segment_count along_river banded_reaches band_count bands_on last_begun flow_in_force top_of course_of reach_at own_gain gain flow bands_at flow_at hydraulics_at bands_fault site_at fractions numbers loaded_segment hydraulics_of P N F R row_of new_storage new_sediment new_figures downward stepped numbers_at segment_at write_segments figures_at write_figures flow_row_fault test_flows walk starts_late row_fault gauge_fault flow_fault face_fault sum_fault sheet_tests course_tests list_tests load_tests loaded load_answer load_columns block_highest blocks_fault upstream_at river_fault numbers_fault segment_fault figure_fault start_fault state_fault held_fault report_tests reported result rows_upstream own_step ahead own_working working_ahead is_above first_above steps_made foreseen copied copied_highest forecast_left forecast_fault ahead_tests forecast_tests forecast bytes all_bytes zeros no_state no_work snow melting thaw live_with thawing room_of long_room thaw_ahead melting_room right_copies thaw_columns first-c
+unfolding lowest_from lowest any_shorter not_rising any_below highest_below nearest floor_div outside any_outside flow_row_start flow_row_top flow_row_starts flow_row_tops sections edition starts_with field header_field section_end sections_end count_at sheet_end flow_row_count record_field reach_fields reach_of reach_on reaches row_starts row_concentrations gauges total_segments segment_count along_river banded_reaches band_count bands_on last_begun flow_in_force top_of course_of reach_at own_gain gain flow bands_at flow_at hydraulics_at bands_fault site_at fractions numbers loaded_segment hydraulics_of P N F R row_of new_storage new_sediment new_figures downward stepped numbers_at segment_at write_segments figures_at write_figures flow_row_fault test_flows walk starts_late row_fault gauge_fault flow_fault face_fault sum_fault sheet_tests course_tests list_tests load_tests loaded load_answer load_columns block_highest blocks_fault upstream_at river_fault numbers_fault segment_fault figure_fault start_fault state_fault held_fault report_tests reported call_result rows_upstream own_step ahead own_working working_ahead is_above first_above steps_made foreseen copied copied_highest forecast_left forecast_fault ahead_tests forecast_tests forecast bytes all_bytes zeros no_state no_work snow melting thaw live_with thawing room_of long_room thaw_ahead melting_room right_copies thaw_columns first-c
 worked-out = record {
   answers = refl;
   right = refl;
@@ -96,7 +96,7 @@ worked-out = record {
 -- ---- what is met
 
 -- what a report of the gauge shows
-shown-is : (state : State) (c : ℕ) (v : Reported) → Shows thaw state 1 c → (result (segment_count thaw) state (report thaw_columns 1)).answer ≡ accepted v → c ≡ v.channel
+shown-is : (state : State) (c : ℕ) (v : Reported) → Shows thaw state 1 c → (call_result (segment_count thaw) state (report thaw_columns 1)).answer ≡ accepted v → c ≡ v.channel
 shown-is state c v shows e =
     let x = shows thaw_columns worked-out.lent worked-out.long in sym x.2 ∙ ap (λ (r : Reported). r.channel) (same x.0 v (sym x.1 ∙ e))
   where

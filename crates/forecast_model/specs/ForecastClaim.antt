@@ -7,7 +7,7 @@ use Rattle.model.specs.Sheet.{Reach, segment_count}
 use Rattle.model.specs.State.{Columns, column_lists, loaded_segments, State, figures_of}
 use Rattle.model.specs.Refusals.{nothing, accepted, refused, passes, first}
 use Rattle.model.specs.Load.{river_tests, Loaded, load_answer}
-use Rattle.model.specs.Calls.{Reported, start, report, result}
+use Rattle.model.specs.Calls.{Reported, start, report, call_result}
 use Rattle.model.specs.Runs.{LoneCall, alone, accepts, after, run, OwnLists, AsLoaded, Fed, Event, moved, events, Exact, no_river, ExactRun}
 use Rattle.model.specs.Claim.{SameFigures, SamePast, Near}
 use Rattle.model.specs.OwnRiver.{rows_upstream, Alike}
@@ -21,7 +21,7 @@ use Rattle.forecast_model.specs.Forecast.{Question, Live, Room, Foreseen, foreca
 abbrev pub Shows : (sheet : List ℕ) → State → (gauge c : ℕ) → Type 0
 Shows sheet state gauge c =
     (columns : Columns) → AsLoaded sheet (segment_count sheet) columns → any_shorter (segment_count sheet) (column_lists columns) ≡ false →
-    (v : Reported) × ((result (segment_count sheet) state (report columns gauge)).answer ≡ accepted v) × (v.channel ≡ c)
+    (v : Reported) × ((call_result (segment_count sheet) state (report columns gauge)).answer ≡ accepted v) × (v.channel ≡ c)
 
 -- what a forecast says of a gauge that shows c where it stops: above there, or not, and then it went to the horizon's end
 abbrev pub Says : (steps : ℕ) → Question → Foreseen → (c : ℕ) → Type 0

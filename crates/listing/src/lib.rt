@@ -1,5 +1,5 @@
 // The lines of one step of the listing, read from the sheet and the state.
-ghost use Rattle.lists.specs.Lent.{entry, exit};
+ghost use Rattle.lists.specs.Lent.{plain};
 ghost use Rattle.terms.specs.Lent.{state};
 ghost use Rattle.output.specs.Listing.{step_lines, lines_at};
 ghost use Rattle.output.specs.Outcomes.{PutLine, Lines};
@@ -21,7 +21,7 @@ fn put_gauge(
     buffer: &mut [u8],
 ) -> Output
     requires { HasSegment segment kd.now channel.now storage.now sediment.now }
-    ensures { PutLine (line_at step segment (entry kd) (entry channel) (entry storage) (entry sediment)) out (entry buffer) result (exit buffer) }
+    ensures { PutLine (line_at step segment kd.now channel.now storage.now sediment.now) out buffer.old result buffer.new }
 {
     let i = segment as usize - 1;
     let sorbed = rounding::product(kd[i], sediment[i]);
@@ -47,7 +47,7 @@ fn put_gauges(
     buffer: &mut [u8],
 ) -> Output
     requires { Shown sheet.now kd.now channel.now storage.now sediment.now }
-    ensures { Lines (step_lines (entry sheet) (state entry channel storage sediment river.upstream river.steps)) out (entry buffer) result (exit buffer) }
+    ensures { Lines (step_lines sheet.now (state plain channel.now storage.now sediment.now river.upstream river.steps)) out buffer.old result buffer.new }
 {
     let gauges = gauge_count(sheet) as usize;
     let mut at = out;
@@ -80,7 +80,7 @@ pub fn put_lines(
     buffer: &mut [u8],
 ) -> Output
     requires { Shown sheet.now kd.now channel.now storage.now sediment.now }
-    ensures { Lines (lines_at (entry sheet) (state entry channel storage sediment river.upstream river.steps)) out (entry buffer) result (exit buffer) }
+    ensures { Lines (lines_at sheet.now (state plain channel.now storage.now sediment.now river.upstream river.steps)) out buffer.old result buffer.new }
 {
     let every = interval(sheet);
     if river.steps % every == 0 {

@@ -2,11 +2,10 @@
 // said of lists is definitions (specs/) and laws (proofs/).
 ghost use Rattle.std.specs.Prelude.{◌≡◌, ◌≤◌, min, max, length, get_or};
 ghost use Rattle.lists.specs.Lists.{tab, over, any_under};
-ghost use Rattle.lists.specs.Lent.{entry, exit};
 
 // One of these lengths is below n: "A lent list is shorter than the river".
 pub fn any_short(n: usize, lengths: &[usize]) -> bool
-    ensures { result ≡ any_under n (entry lengths) }
+    ensures { result ≡ any_under n lengths.now }
 {
     let mut i: usize = 0;
     while i < lengths.len() {
@@ -21,7 +20,7 @@ pub fn any_short(n: usize, lengths: &[usize]) -> bool
 // The first n entries of `from` over those of `to`.
 pub fn copy(n: usize, from: &[u32], to: &mut [u32])
     requires { (n ≤ length from.now) × (n ≤ length to.old) }
-    ensures { exit to ≡ over (tab 0 n (λ i. get_or (entry from) i 0)) (entry to) }
+    ensures { to.new ≡ over (tab 0 n (λ i. get_or from.now i 0)) to.old }
 {
     let mut i: usize = 0;
     while i < n {

@@ -2,7 +2,7 @@
 ghost use Rattle.std.specs.Prelude.{◌≡◌, map, length};
 ghost use Rattle.model.specs.Load.{load_answer, load_columns, load_records};
 ghost use Rattle.terms.specs.Says.{reach_says};
-ghost use Rattle.lists.specs.Lent.{entry, exit};
+ghost use Rattle.lists.specs.Lent.{plain};
 ghost use Rattle.terms.specs.Lent.{columns};
 ghost use Rattle.assembly.specs.Says.{load_says};
 
@@ -31,11 +31,11 @@ pub fn load(
     kd: &mut [u32],
     start: &mut [u32],
 ) -> Load
-    ensures answer { load_says result ≡ load_answer (entry sheet) row (length (entry reaches)) (columns entry e g l a b k ks h m s cl cb kd start) }
-    ensures lists { columns exit e g l a b k ks h m s cl cb kd start ≡ load_columns (entry sheet) row (length (entry reaches))
-        (columns entry e g l a b k ks h m s cl cb kd start) }
-    ensures records { map reach_says (exit reaches) ≡ load_records (entry sheet) row (map reach_says (entry reaches))
-        (columns entry e g l a b k ks h m s cl cb kd start) }
+    ensures answer { load_says result ≡ load_answer sheet.now row (length reaches.old) (columns plain e.old g.old l.old a.old b.old k.old ks.old h.old m.old s.old cl.old cb.old kd.old start.old) }
+    ensures lists { columns plain e.new g.new l.new a.new b.new k.new ks.new h.new m.new s.new cl.new cb.new kd.new start.new ≡ load_columns sheet.now row (length reaches.old)
+        (columns plain e.old g.old l.old a.old b.old k.old ks.old h.old m.old s.old cl.old cb.old kd.old start.old) }
+    ensures records { map reach_says reaches.new ≡ load_records sheet.now row (map reach_says reaches.old)
+        (columns plain e.old g.old l.old a.old b.old k.old ks.old h.old m.old s.old cl.old cb.old kd.old start.old) }
 {
     let answer = Loaded::assemble(
         sheet,

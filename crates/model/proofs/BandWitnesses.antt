@@ -18,7 +18,7 @@ use Rattle.model.specs.State.{loaded_segments, pair_at, numbers_at, segment_at, 
 use Rattle.model.specs.Refusals.{accepted, passes, first}
 use Rattle.model.specs.Load.{flow_row_fault, test_flows, walk, starts_late, row_fault, gauge_fault, flow_fault, face_fault, sum_fault, sheet_tests, course_tests, river_tests, list_tests, load_tests, loaded, load_answer, load_columns}
 use Rattle.model.specs.Highest.{blocks_fault}
-use Rattle.model.specs.Calls.{old_fault, numbers_fault, river_fault, segment_fault, figure_fault, start_fault, state_fault, held_fault, start_tests, start_left, step_left, result, step_tests, report_tests, step, report, reported}
+use Rattle.model.specs.Calls.{old_fault, numbers_fault, river_fault, segment_fault, figure_fault, start_fault, state_fault, held_fault, start_tests, start_left, step_left, call_result, step_tests, report_tests, step, report, reported}
 use Rattle.model.specs.Runs.{alone, accepts, after, run, AllAccepted, AsLoaded, PairAsLoaded, Fed}
 use Rattle.model.specs.Claim.{Holds, Demand3}
 use Rattle.model.specs.BandClaim.{InOne, Among, SameBands, Reordered}
@@ -60,7 +60,7 @@ record WorkedOut : Type 0 where
   steps : (run (no_state 2) widening_calls).steps ≡ 1
 
 worked-out : WorkedOut
-unfolding accepts after run no_state lowest_from lowest any_shorter not_rising nearest floor_div outside any_outside starts_with field header_field section_end sections_end count_at sheet_end record_field reach_fields reach_of reach_on reaches row_starts row_concentrations gauges total_segments segment_count along_river banded_reaches band_count bands_on bands_at flow_at hydraulics_of hydraulics_at bands_fault course_of reach_at own_gain gain flow site_at fractions numbers loaded_segment P N F R row_of new_storage new_sediment new_figures downward stepped segment_at write_segments figures_at write_figures walk starts_late row_fault gauge_fault flow_fault face_fault sum_fault sheet_tests course_tests list_tests load_tests loaded load_answer load_columns blocks_fault river_fault segment_fault figure_fault start_fault state_fault held_fault start_tests start_left step_left result step_tests report_tests reported bytes all_bytes zeros no_work top_of sections edition flow_row_count test_flows numbers_fault numbers_at old_fault pair_at last_begun flow_in_force flow_row_start flow_row_top flow_row_starts flow_row_tops flow_row_fault any_below holds band_fault overlap begins gap_behind broken_at fields_with river one_reach rising low high valley widening turned altered bands_by widening_for widening_start widening_steps widening_calls first-l
+unfolding accepts after run no_state lowest_from lowest any_shorter not_rising nearest floor_div outside any_outside starts_with field header_field section_end sections_end count_at sheet_end record_field reach_fields reach_of reach_on reaches row_starts row_concentrations gauges total_segments segment_count along_river banded_reaches band_count bands_on bands_at flow_at hydraulics_of hydraulics_at bands_fault course_of reach_at own_gain gain flow site_at fractions numbers loaded_segment P N F R row_of new_storage new_sediment new_figures downward stepped segment_at write_segments figures_at write_figures walk starts_late row_fault gauge_fault flow_fault face_fault sum_fault sheet_tests course_tests list_tests load_tests loaded load_answer load_columns blocks_fault river_fault segment_fault figure_fault start_fault state_fault held_fault start_tests start_left step_left call_result step_tests report_tests reported bytes all_bytes zeros no_work top_of sections edition flow_row_count test_flows numbers_fault numbers_at old_fault pair_at last_begun flow_in_force flow_row_start flow_row_top flow_row_starts flow_row_tops flow_row_fault any_below holds band_fault overlap begins gap_behind broken_at fields_with river one_reach rising low high valley widening turned altered bands_by widening_for widening_start widening_steps widening_calls first-l
 worked-out =
     let gap : (x : InOne (bands_by 2 (0 ∷ 498 ∷ 100 ∷ 50 ∷ 100 ∷ high)) 499) → ⊥ =
     λ x. one_of_two (λ k. holds ((bands_by 2 (0 ∷ 498 ∷ 100 ∷ 50 ∷ 100 ∷ high)).band k) 499 ≡ true → ⊥) false≢true false≢true x.number x.known x.held in

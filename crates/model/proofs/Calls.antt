@@ -7,7 +7,7 @@ use lib.ListN.{get_or, set}
 use Rattle.lists.proofs.Stretch.{splice-self}
 use Rattle.model.specs.State.{Columns, State}
 use Rattle.model.specs.Refusals.{Place, accepted, refused, Finding, passes, fails, first, answer, left_after}
-use Rattle.model.specs.Calls.{Call, start, step, report, call_tests, call_values, call_left, call_lent, result}
+use Rattle.model.specs.Calls.{Call, start, step, report, call_tests, call_values, call_left, call_lent, call_result}
 use Rattle.model.specs.Pool.{vacant, slot_of, Pool, shared_lists, state_of, with_state, pool_tests, pool_result}
 
 -- what a call is lent beside the state does not rest on the state
@@ -21,17 +21,17 @@ pub lent-state : {S : Type 0} (state : S) (call : Call) → (call_lent state cal
 lent-state state call = ap (λ x. x.state) (lent-beside state state call)
 
 module _ (n : ℕ) (state : State) (call : Call) where
-  pub result-passes : first (call_tests n state call) ≡ passes → result n state call ≡ record { answer = accepted (call_values state call); left = call_left n state call }
-  unfolding result
+  pub result-passes : first (call_tests n state call) ≡ passes → call_result n state call ≡ record { answer = accepted (call_values state call); left = call_left n state call }
+  unfolding call_result
   result-passes e = rw e
 
-  pub result-fails : {k : ℕ} {place : Place} → first (call_tests n state call) ≡ fails k place → result n state call ≡ record { answer = refused k place; left = call_lent state call }
-  unfolding result
+  pub result-fails : {k : ℕ} {place : Place} → first (call_tests n state call) ≡ fails k place → call_result n state call ≡ record { answer = refused k place; left = call_lent state call }
+  unfolding call_result
   result-fails e = rw e
 
   -- a refused call leaves the state as it was
-  pub refused-still : {k : ℕ} {place : Place} → (result n state call).answer ≡ refused k place → (result n state call).left.state ≡ state
-  unfolding result
+  pub refused-still : {k : ℕ} {place : Place} → (call_result n state call).answer ≡ refused k place → (call_result n state call).left.state ≡ state
+  unfolding call_result
   refused-still {k} {place} = go (first (call_tests n state call))
     where
       go : (t : Finding) → answer t (call_values state call) ≡ refused k place →

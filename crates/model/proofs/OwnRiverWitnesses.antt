@@ -22,7 +22,7 @@ use Rattle.model.specs.Refusals.{accepted}
 use Rattle.model.specs.Load.{flow_row_fault, test_flows, walk, starts_late, row_fault, gauge_fault, flow_fault, face_fault, sum_fault, sheet_tests, course_tests, list_tests, load_tests, loaded, load_answer, load_columns}
 use Rattle.model.specs.Highest.{blocks_fault}
 use Rattle.model.specs.Upstream.{upstream_at, upstream_answer}
-use Rattle.model.specs.Calls.{numbers_fault, river_fault, segment_fault, figure_fault, start_fault, held_fault, start_tests, start_left, step_tests, result}
+use Rattle.model.specs.Calls.{numbers_fault, river_fault, segment_fault, figure_fault, start_fault, held_fault, start_tests, start_left, step_tests, call_result}
 use Rattle.model.specs.Runs.{accepts, after, run, AllAccepted, AsLoaded}
 use Rattle.model.specs.OwnRiver.{rows_upstream, own_step, ahead, own_start, own_state, own_events}
 use Rattle.model.specs.OwnRiverClaim.{UpstreamInRange, StepLent, OwnCalls}
@@ -85,7 +85,7 @@ record WorkedOut : Type 0 where
   alike : AlikeBench
 
 worked-out : WorkedOut
-unfolding lowest_from lowest any_shorter not_rising nearest floor_div outside any_outside flow_row_start flow_row_top flow_row_starts flow_row_tops sections edition starts_with field header_field section_end sections_end count_at sheet_end flow_row_count record_field reach_fields reach_of reach_on reaches row_starts row_concentrations gauges total_segments segment_count along_river banded_reaches band_count bands_on last_begun flow_in_force top_of course_of reach_at own_gain gain flow bands_at flow_at hydraulics_at bands_fault site_at fractions numbers loaded_segment hydraulics_of P N F R row_of new_storage new_sediment new_figures downward stepped numbers_at segment_at write_segments figures_at write_figures flow_row_fault test_flows walk starts_late row_fault gauge_fault flow_fault face_fault sum_fault sheet_tests course_tests list_tests load_tests loaded load_answer load_columns blocks_fault upstream_at numbers_fault river_fault segment_fault figure_fault start_fault held_fault start_tests start_left step_tests result accepts after rows_upstream own_step ahead own_start own_state own_events bytes all_bytes zeros no_state no_work snow melting some_state thaw melting_for refused_calls surge surge_start surge_step late_steps surge_steps late_state first-c second-c
+unfolding lowest_from lowest any_shorter not_rising nearest floor_div outside any_outside flow_row_start flow_row_top flow_row_starts flow_row_tops sections edition starts_with field header_field section_end sections_end count_at sheet_end flow_row_count record_field reach_fields reach_of reach_on reaches row_starts row_concentrations gauges total_segments segment_count along_river banded_reaches band_count bands_on last_begun flow_in_force top_of course_of reach_at own_gain gain flow bands_at flow_at hydraulics_at bands_fault site_at fractions numbers loaded_segment hydraulics_of P N F R row_of new_storage new_sediment new_figures downward stepped numbers_at segment_at write_segments figures_at write_figures flow_row_fault test_flows walk starts_late row_fault gauge_fault flow_fault face_fault sum_fault sheet_tests course_tests list_tests load_tests loaded load_answer load_columns blocks_fault upstream_at numbers_fault river_fault segment_fault figure_fault start_fault held_fault start_tests start_left step_tests call_result accepts after rows_upstream own_step ahead own_start own_state own_events bytes all_bytes zeros no_state no_work snow melting some_state thaw melting_for refused_calls surge surge_start surge_step late_steps surge_steps late_state first-c second-c
 worked-out =
     let lent0 : StepLent melting 0 (melting_for 0).numbers (melting_for 1) (0 ∷ []) (no_work 2) = record { pair = record { before = refl; after = record { count = refl; segments = refl } }; old_long = refl; new_long = refl; working_long = refl; blocks = refl } in
     let lent1 : StepLent melting 1 (melting_for 1).numbers (melting_for 1) (0 ∷ []) (no_work 2) = record { pair = record { before = refl; after = record { count = refl; segments = refl } }; old_long = refl; new_long = refl; working_long = refl; blocks = refl } in

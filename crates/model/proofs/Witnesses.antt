@@ -25,7 +25,7 @@ use Rattle.model.specs.State.{loaded_segments, figures_of, pair_at, numbers_at, 
 use Rattle.model.specs.Refusals.{nothing, accepted, refused, Finding, passes, first}
 use Rattle.model.specs.Load.{flow_row_fault, test_flows, walk, starts_late, row_fault, gauge_fault, flow_fault, face_fault, sum_fault, sheet_tests, course_tests, list_tests, load_tests, loaded, load_answer, load_columns}
 use Rattle.model.specs.Highest.{block_highest, blocks_fault}
-use Rattle.model.specs.Calls.{old_fault, numbers_fault, river_fault, segment_fault, figure_fault, start_fault, state_fault, held_fault, start_tests, start_left, step_left, result, step_tests, report_tests, start, step, report, Reported, reported}
+use Rattle.model.specs.Calls.{old_fault, numbers_fault, river_fault, segment_fault, figure_fault, start_fault, state_fault, held_fault, start_tests, start_left, step_left, call_result, step_tests, report_tests, start, step, report, Reported, reported}
 use Rattle.model.specs.Search.{search_tests, Above, Finds, Searches, SearchAnswer, Clear}
 use Rattle.model.specs.Runs.{LoneCall, alone, accepts, after, run, AllAccepted, left_since, AsLoaded, PairAsLoaded, Fed, events, Exact, no_river, ExactRun}
 use Rattle.model.specs.Claim.{SameFigures, SamePast, Near, Holds, Demand3}
@@ -69,7 +69,7 @@ record WorkedOut : Type 0 where
   state : run (no_state 2) melting_calls ≡ record { channel = 1941 ∷ 976 ∷ []; storage = 0 ∷ 0 ∷ []; sediment = 0 ∷ 0 ∷ []; upstream = 3000; steps = 2 }
   steps : (run (no_state 2) melting_calls).steps ≡ 2
   reporting : AsLoaded melting 2 (melting_for 2)
-  given : (v : Reported) × ((result 2 (run (no_state 2) melting_calls) (report (melting_for 2) 2)).answer ≡ accepted v)
+  given : (v : Reported) × ((call_result 2 (run (no_state 2) melting_calls) (report (melting_for 2) 2)).answer ≡ accepted v)
   -- the sheet's loadings and its opening
   loads0 : load_answer melting 0 1 (zeros 2) ≡ accepted (loaded melting)
   loads1 : load_answer melting 1 1 (zeros 2) ≡ accepted (loaded melting)
@@ -88,7 +88,7 @@ record WorkedOut : Type 0 where
   search : SearchMet
 
 worked-out : WorkedOut
-unfolding from10 refused_calls accepts after run melting_for melting_start overlapping melting_step melting_steps melting_calls no_state lowest_from lowest any_shorter not_rising nearest floor_div outside any_outside starts_with field header_field section_end sections_end count_at sheet_end record_field reach_fields reach_of reach_on reaches row_starts row_concentrations gauges total_segments segment_count along_river banded_reaches band_count bands_on bands_at flow_at hydraulics_of hydraulics_at bands_fault course_of reach_at own_gain gain flow site_at fractions numbers loaded_segment P N F R row_of new_storage new_sediment new_figures downward stepped segment_at write_segments figures_at write_figures walk starts_late row_fault gauge_fault flow_fault face_fault sum_fault sheet_tests course_tests list_tests load_tests loaded load_answer load_columns blocks_fault river_fault segment_fault figure_fault start_fault state_fault held_fault start_tests start_left step_left result step_tests report_tests reported bytes all_bytes zeros no_work top_of sections edition flow_row_count test_flows numbers_fault numbers_at old_fault pair_at last_begun flow_in_force flow_row_start flow_row_top flow_row_starts flow_row_tops flow_row_fault snow melting first-e listed listed_columns listed_state any_below sum_below open_segments room_fault table_fault shared_fault open_tests open_answer open_columns all_closed open_at table_of pool_with left_since search_tests highest_below block_highest
+unfolding from10 refused_calls accepts after run melting_for melting_start overlapping melting_step melting_steps melting_calls no_state lowest_from lowest any_shorter not_rising nearest floor_div outside any_outside starts_with field header_field section_end sections_end count_at sheet_end record_field reach_fields reach_of reach_on reaches row_starts row_concentrations gauges total_segments segment_count along_river banded_reaches band_count bands_on bands_at flow_at hydraulics_of hydraulics_at bands_fault course_of reach_at own_gain gain flow site_at fractions numbers loaded_segment P N F R row_of new_storage new_sediment new_figures downward stepped segment_at write_segments figures_at write_figures walk starts_late row_fault gauge_fault flow_fault face_fault sum_fault sheet_tests course_tests list_tests load_tests loaded load_answer load_columns blocks_fault river_fault segment_fault figure_fault start_fault state_fault held_fault start_tests start_left step_left call_result step_tests report_tests reported bytes all_bytes zeros no_work top_of sections edition flow_row_count test_flows numbers_fault numbers_at old_fault pair_at last_begun flow_in_force flow_row_start flow_row_top flow_row_starts flow_row_tops flow_row_fault snow melting first-e listed listed_columns listed_state any_below sum_below open_segments room_fault table_fault shared_fault open_tests open_answer open_columns all_closed open_at table_of pool_with left_since search_tests highest_below block_highest
 worked-out =
     let pair0 : PairAsLoaded melting 0 2 (melting_for 0).numbers (melting_for 1) = record { before = refl; after = record { count = refl; segments = refl } } in
     let pair1 : PairAsLoaded melting 1 2 (melting_for 1).numbers (melting_for 1) = record { before = refl; after = record { count = refl; segments = refl } } in

@@ -8,7 +8,7 @@ use Rattle.model.specs.HalfStep.{ten_of, site_at, discharge, numbers}
 use Rattle.model.specs.State.{Columns, State}
 use Rattle.model.specs.Refusals.{Outcome, accepted, refused}
 use Rattle.model.specs.Load.{load_answer, load_columns}
-use Rattle.model.specs.Calls.{Working, Left, Reported, start, step, report, result}
+use Rattle.model.specs.Calls.{Working, Left, Reported, start, step, report, call_result}
 
 -- a field's four bytes, and a sheet of such fields
 unfoldable pub bytes : ℕ → List ℕ
@@ -60,11 +60,11 @@ brook2 = load_columns (brook 1 0 2 3000) 0 1 (zeros 2)
 
 -- its start, with U 3,000
 unfoldable pub started2 : State
-started2 = (result 2 (no_state 2) (start brook2 (0 ∷ []) 3000)).left.state
+started2 = (call_result 2 (no_state 2) (start brook2 (0 ∷ []) 3000)).left.state
 
 -- what the step leaves
 unfoldable pub stepped2 : Left State
-stepped2 = (result 2 started2 (step brook2.numbers brook2 (0 ∷ []) (no_work 2) 3000 1)).left
+stepped2 = (call_result 2 started2 (step brook2.numbers brook2 (0 ∷ []) (no_work 2) 3000 1)).left
 
 -- a line of a table: its number, what the definitions give and what the figures are to be, here those that the documents print
 pub record Line : Type 0 where
@@ -112,8 +112,8 @@ listed_columns = load_columns listed 0 1 (zeros 1)
 
 -- loaded, started, and stepped with the row's figure
 unfoldable pub listed_state : (steps : ℕ) → State
-listed_state zero = (result 1 (no_state 1) (start listed_columns (0 ∷ []) 3000)).left.state
-listed_state (suc n) = (result 1 (listed_state n) (step listed_columns.numbers listed_columns (0 ∷ []) (no_work 1) 3000 2)).left.state
+listed_state zero = (call_result 1 (no_state 1) (start listed_columns (0 ∷ []) 3000)).left.state
+listed_state (suc n) = (call_result 1 (listed_state n) (step listed_columns.numbers listed_columns (0 ∷ []) (no_work 1) 3000 2)).left.state
 
 -- what a line prints of a report
 abbrev pub figures : Outcome Reported → List ℕ
@@ -123,8 +123,8 @@ figures (refused number place) = number ∷ []
 -- the listing's lines, by step
 unfoldable pub listing : List Line
 listing =
-    line 1 (figures (result 1 (listed_state 1) (report listed_columns 1)).answer) (2000 ∷ 400 ∷ 1334 ∷ []) ∷
-    line 2 (figures (result 1 (listed_state 2) (report listed_columns 1)).answer) (2667 ∷ 533 ∷ 3556 ∷ []) ∷
+    line 1 (figures (call_result 1 (listed_state 1) (report listed_columns 1)).answer) (2000 ∷ 400 ∷ 1334 ∷ []) ∷
+    line 2 (figures (call_result 1 (listed_state 2) (report listed_columns 1)).answer) (2667 ∷ 533 ∷ 3556 ∷ []) ∷
     []
 
 -- every line of a table gives the figures that are printed

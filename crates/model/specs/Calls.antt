@@ -179,8 +179,8 @@ result_of tests values lent written =
     record { answer = outcome_of tests values; left = left_after (outcome_of tests values) lent written }
 
 -- that of a call on lists alone, of n segments
-unfoldable pub result : (n : ℕ) → State → (call : Call) → Result State (Values call)
-result n state call = result_of (call_tests n state call) (call_values state call) (call_lent state call) (call_left n state call)
+unfoldable pub call_result : (n : ℕ) → State → (call : Call) → Result State (Values call)
+call_result n state call = result_of (call_tests n state call) (call_values state call) (call_lent state call) (call_left n state call)
 
 -- a start or a step, which leave highest figures; a report leaves none
 abbrev pub leaves_highest : Call → Bool

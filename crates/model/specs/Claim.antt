@@ -10,7 +10,7 @@ use Rattle.model.specs.ExactRiver.{ExactFigures}
 use Rattle.model.specs.State.{Columns, column_lists, loaded_segments, State, figures_at, figures_of}
 use Rattle.model.specs.Refusals.{accepted}
 use Rattle.model.specs.Load.{Loaded, load_answer, load_columns}
-use Rattle.model.specs.Calls.{Reported, start, report, result}
+use Rattle.model.specs.Calls.{Reported, start, report, call_result}
 use Rattle.model.specs.Runs.{LoneCall, alone, accepts, run, LoadedFor, SetFor, AsLoaded, PairAsLoaded, Fed, events, Exact, no_river, ExactRun}
 
 -- two lists "hold the same figures", segment by segment
@@ -56,7 +56,7 @@ pub record Holds (sheet : List ℕ) (before : State) (calls : List LoneCall) : T
       Near (6 * q.n) (loaded_segments sheet 0) (figures_of (segment_count sheet) (run before calls)) q.now
   -- "an accepted report made then gives these figures of the state"
   pub reports : (n : ℕ) (columns : Columns) (number : ℕ) (v : Reported) → AsLoaded sheet n columns →
-      (result n (run before calls) (report columns number)).answer ≡ accepted v →
+      (call_result n (run before calls) (report columns number)).answer ≡ accepted v →
       FiguresOf sheet (run before calls) number v
 
 -- "A run is one accepted loading, one accepted start into lists of any content, then any list of starts, steps and reports, refused

@@ -11,7 +11,7 @@ use Rattle.model.specs.ExactRiver.{ExactFigures, ExactStep}
 use Rattle.model.specs.State.{NumberSet, Columns, State}
 use Rattle.model.specs.Refusals.{nothing, reach, segment, row, Outcome, accepted, refused}
 use Rattle.model.specs.Load.{loaded, load_answer, load_columns}
-use Rattle.model.specs.Calls.{Left, Call, step, result}
+use Rattle.model.specs.Calls.{Left, Call, step, call_result}
 use Rattle.model.specs.Runs.{sheet_pair}
 use Rattle.model.specs.Bench.{all_bytes, brook, zeros, no_work, Line, line}
 
@@ -85,11 +85,11 @@ step_from old = step old new_columns (0 ∷ []) (no_work 2) 1500000 1
 
 -- what it answers
 unfoldable pub stepping_from : NumberSet → List ℕ
-stepping_from old = refused_at (result 2 some_state (step_from old)).answer
+stepping_from old = refused_at (call_result 2 some_state (step_from old)).answer
 
 -- what it leaves
 unfoldable pub some_left : Left State
-some_left = (result 2 some_state (step_from old_set)).left
+some_left = (call_result 2 some_state (step_from old_set)).left
 
 -- the table
 unfoldable pub flow_bench : List Line

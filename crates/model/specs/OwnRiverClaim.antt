@@ -8,7 +8,7 @@ use Rattle.model.specs.Refusals.{nothing, accepted, refused}
 use Rattle.model.specs.Load.{Loaded, load_answer}
 use Rattle.model.specs.Highest.{blocks_fault}
 use Rattle.model.specs.Upstream.{upstream_answer}
-use Rattle.model.specs.Calls.{figure_fault, held_fault, Working, start, step, result}
+use Rattle.model.specs.Calls.{figure_fault, held_fault, Working, start, step, call_result}
 use Rattle.model.specs.Runs.{LoneCall, alone, accepts, after, run, AllAccepted, AsLoaded, PairAsLoaded, Fed, Exact, no_river, ExactRun}
 use Rattle.model.specs.Claim.{SameFigures, SamePast, Near, Holds}
 use Rattle.model.specs.OwnRiver.{rows_upstream, ahead, own_state, Alike, own_events}
@@ -43,7 +43,7 @@ abbrev pub Done : List ℕ → State → Type 0
 Done sheet state =
     (old : NumberSet) (new : Columns) (highest : List ℕ) (working : Working) (u' : ℕ) → StepLent sheet state.steps old new highest working →
     outside concentration u' ≡ false →
-    (result (segment_count sheet) state (step old new highest working u' (steps_m sheet))).answer ≡ refused 15 nothing
+    (call_result (segment_count sheet) state (step old new highest working u' (steps_m sheet))).answer ≡ refused 15 nothing
 
 -- After an accepted loading and an accepted start no step call of the sheet's own river is refused up to M; the calls leave its state at as many
 -- steps, whatever lists they are lent, demand 3 holds of them, and the call behind the last is refused 15.

@@ -8,7 +8,7 @@ use Rattle.model.specs.State.{loaded_segments, State, state_lists, figures_at, f
 use Rattle.model.specs.Refusals.{nothing, accepted, refused}
 use Rattle.model.specs.Load.{loaded, load_answer}
 use Rattle.model.specs.Upstream.{upstream_answer}
-use Rattle.model.specs.Calls.{figure_fault, held_fault, Call, start, step, result}
+use Rattle.model.specs.Calls.{figure_fault, held_fault, Call, start, step, call_result}
 use Rattle.model.specs.Runs.{LoneCall, alone, accepts, run, AllAccepted, AsLoaded, Fed, started, moved, Exact, no_river, ExactRun}
 use Rattle.model.specs.Claim.{Near, Holds}
 use Rattle.model.specs.OwnRiver.{ahead, Alike, own_events}
@@ -71,7 +71,7 @@ pub record OwnRiverMet : Type 0 where
       AllAccepted (no_state 2) surge_calls
       × (figures_of (segment_count melting) (run (no_state 2) surge_calls) ≡ channel_alone 3861 2640)
       × Holds melting (no_state 2) surge_calls
-      × ((result 2 (run (no_state 2) surge_calls) (surge_step 2 2 6000)).answer ≡ refused 15 nothing)
+      × ((call_result 2 (run (no_state 2) surge_calls) (surge_step 2 2 6000)).answer ≡ refused 15 nothing)
   -- from another state at step 2
   pub long : any_shorter (segment_count melting) (state_lists late_state) ≡ false
   pub figures : (i : ℕ) → i < segment_count melting → figure_fault (figures_at late_state i) ≡ false
@@ -82,7 +82,7 @@ pub record OwnRiverMet : Type 0 where
       × (run late_state late_steps
       ≡ record { channel = 375667 ∷ 988778 ∷ []; storage = 3000000 ∷ 500000 ∷ []; sediment = 700000 ∷ 900000 ∷ []; upstream = 5000; steps = 4 })
       × Fed melting late_state late_steps
-      × ((result 2 (run late_state late_steps) (surge_step 2 2 6000)).answer ≡ refused 15 nothing)
+      × ((call_result 2 (run late_state late_steps) (surge_step 2 2 6000)).answer ≡ refused 15 nothing)
   -- an exact river that is fed a start and two steps is near the figures at step 2
   pub says_near : OwnRiverNear →
       (q : Exact) × ExactRun melting no_river (started 1000 ∷ moved 2000 ∷ moved 3000 ∷ []) q

@@ -10,7 +10,7 @@ use Rattle.model.specs.Flow.{flow_in_force}
 use Rattle.model.specs.State.{Columns, State}
 use Rattle.model.specs.Refusals.{nothing, Outcome, accepted, refused, passes, fails}
 use Rattle.model.specs.Load.{Loaded, load_answer, load_columns}
-use Rattle.model.specs.Calls.{Call, Result, result}
+use Rattle.model.specs.Calls.{Call, Result, call_result}
 use Rattle.model.specs.Search.{SearchAnswer}
 use Rattle.model.specs.Runs.{OwnLists, after, run, PairAsLoaded, Fed}
 use Rattle.model.specs.Claim.{Holds, LeftFor}
@@ -55,7 +55,7 @@ pub record AsAlone (pool : Pool) (number : ℕ) (own : Own) (before : State) : T
   -- "an open river shows the figures its accepted calls alone would give", with U and the count of steps done
   pub figures : state_of pool number ≡ run before (own_calls own)
   -- its calls get the answers that they would get alone, and leave the highest figures and a step's working lists as they would
-  pub calls : (call : Call) → Alike (pool_result pool number call) (result own.count (run before (own_calls own)) call)
+  pub calls : (call : Call) → Alike (pool_result pool number call) (call_result own.count (run before (own_calls own)) call)
   -- a search may give the answers that it may give alone, and no other
   pub searches : (highest : List ℕ) (limit : ℕ) (answer : Outcome (Option ℕ)) → PoolSearchAnswer pool.table pool.channel number highest limit answer →
       SearchAnswer own.count (run before (own_calls own)).channel highest limit answer

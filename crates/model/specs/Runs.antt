@@ -10,7 +10,7 @@ use Rattle.model.specs.Equations.{Pair}
 use Rattle.model.specs.ExactRiver.{ExactFigures, ExactStep}
 use Rattle.model.specs.State.{NumberSet, numbers_of, Columns, segments_of, loaded_segments, loaded_numbers, State}
 use Rattle.model.specs.Refusals.{is_accepted}
-use Rattle.model.specs.Calls.{Call, start, step, report, result, leaves_highest}
+use Rattle.model.specs.Calls.{Call, start, step, report, call_result, leaves_highest}
 
 -- a call on a river that has its lists alone, which is handed their segment count
 pub data LoneCall : Type 0 where
@@ -24,11 +24,11 @@ pub record OwnLists (n : ℕ) (state : State) : Type 0 where
 
 -- the call is accepted
 unfoldable pub accepts : State → LoneCall → Bool
-accepts state (alone n call) = is_accepted (result n state call).answer
+accepts state (alone n call) = is_accepted (call_result n state call).answer
 
 -- the state that it leaves; "A report or a refused call leaves the state as it was."
 unfoldable pub after : State → LoneCall → State
-after state (alone n call) = (result n state call).left.state
+after state (alone n call) = (call_result n state call).left.state
 
 -- "Every call is lent the state as the call before left it"
 unfoldable pub run : State → List LoneCall → State
@@ -47,7 +47,7 @@ pub record HighestFigures : Type 0 where
 
 -- those after an accepted call in this state: a start's or a step's own; a report leaves those before it
 abbrev pub leaves : State → LoneCall → (before : Option HighestFigures) → Option HighestFigures
-leaves state (alone n call) before = cond (leaves_highest call) (some (record { count = n; highest = (result n state call).left.highest })) before
+leaves state (alone n call) before = cond (leaves_highest call) (some (record { count = n; highest = (call_result n state call).left.highest })) before
 
 -- those that the latest accepted start or step of a list of calls from a state left; `before` are those before the list
 unfoldable pub left_since : State → List LoneCall → (before : Option HighestFigures) → Option HighestFigures

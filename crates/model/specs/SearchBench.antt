@@ -5,7 +5,7 @@ use Rattle.model.specs.HalfStep.{ten}
 use Rattle.model.specs.State.{Columns, State}
 use Rattle.model.specs.Refusals.{first}
 use Rattle.model.specs.Highest.{block_count, block_of, highest_of}
-use Rattle.model.specs.Calls.{Left, start, step, result}
+use Rattle.model.specs.Calls.{Left, start, step, call_result}
 use Rattle.model.specs.Search.{search_tests}
 use Rattle.model.specs.Pool.{Slot, vacant, Pool, pool_result, pool_search_tests, open_highest}
 use Rattle.model.specs.Bench.{zeros, no_state, no_work, Line, line}
@@ -24,21 +24,21 @@ full_state =
 
 -- what its step leaves
 unfoldable pub full_left : Left State
-full_left = (result 1 full_state (step full_columns.numbers full_columns (7 ∷ 8 ∷ []) (no_work 1) 1000000000 1)).left
+full_left = (call_result 1 full_state (step full_columns.numbers full_columns (7 ∷ 8 ∷ []) (no_work 1) 1000000000 1)).left
 
 -- the highest figures that a start with this U, and a step, of the state of `FlowBench` leave
 unfoldable pub started_highest : (u : ℕ) → List ℕ
-started_highest u = (result 2 some_state (start new_columns (7 ∷ 8 ∷ []) u)).left.highest
+started_highest u = (call_result 2 some_state (start new_columns (7 ∷ 8 ∷ []) u)).left.highest
 
 unfoldable pub stepped_highest : List ℕ
-stepped_highest = (result 2 some_state (step old_set new_columns (7 ∷ 8 ∷ []) (no_work 2) 1500000 1)).left.highest
+stepped_highest = (call_result 2 some_state (step old_set new_columns (7 ∷ 8 ∷ []) (no_work 2) 1500000 1)).left.highest
 
 -- what a start of n segments, all zeros, and a step of that state answer where they are lent these highest figures
 unfoldable pub starting_with : (n : ℕ) → (highest : List ℕ) → (u : ℕ) → List ℕ
-starting_with n highest u = refused_at (result n (no_state n) (start (zeros n) highest u)).answer
+starting_with n highest u = refused_at (call_result n (no_state n) (start (zeros n) highest u)).answer
 
 unfoldable pub stepping_with : (highest : List ℕ) → (u' : ℕ) → List ℕ
-stepping_with highest u' = refused_at (result 2 some_state (step old_set new_columns highest (no_work 2) u' 1)).answer
+stepping_with highest u' = refused_at (call_result 2 some_state (step old_set new_columns highest (no_work 2) u' 1)).answer
 
 -- the highest figures that a start of river 3 leaves
 unfoldable pub river3_highest : Pool → (highest : List ℕ) → List ℕ

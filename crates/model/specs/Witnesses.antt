@@ -10,7 +10,7 @@ use Rattle.model.specs.ExactRiver.{ExactFigures}
 use Rattle.model.specs.State.{NumberSet, Columns, segment_at, loaded_segments, State, figures_of}
 use Rattle.model.specs.Refusals.{nothing, Outcome, accepted, refused, passes, fails}
 use Rattle.model.specs.Load.{loaded, load_answer, load_columns}
-use Rattle.model.specs.Calls.{Working, Reported, Call, start, step, report, result}
+use Rattle.model.specs.Calls.{Working, Reported, Call, start, step, report, call_result}
 use Rattle.model.specs.Search.{SearchAnswer, Tells}
 use Rattle.model.specs.Runs.{LoneCall, alone, accepts, after, run, AllAccepted, HighestFigures, left_since, AsLoaded, PairAsLoaded, LentFrom, Fed, events}
 use Rattle.model.specs.Runs.{Exact, no_river, ExactRun}
@@ -66,7 +66,7 @@ pub record Demand3Met : Type 0 where
   pub says : Demand3 → (q : Exact) × ExactRun melting no_river (events (no_state 2) melting_calls) q × (q.n ≡ 2)
       × Near (6 * 2) (loaded_segments melting 0) (figures_of (segment_count melting) (run (no_state 2) melting_calls)) q.now
   pub says_report : Demand3 → let state = run (no_state 2) melting_calls in
-      (v : Reported) × ((result 2 state (report (melting_for 2) 2)).answer ≡ accepted v) × FiguresOf melting state 2 v
+      (v : Reported) × ((call_result 2 state (report (melting_for 2) 2)).answer ≡ accepted v) × FiguresOf melting state 2 v
   pub says_refused : Demand3 → Holds melting (no_state 2) (melting_start ∷ refused_calls ++ melting_steps)
 
 -- what is asked that accepted calls are lent is what a loading leaves and no more, whatever the state and whatever is handed with it

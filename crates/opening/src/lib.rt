@@ -2,7 +2,7 @@
 ghost use Rattle.std.specs.Prelude.{◌≡◌, map, length};
 ghost use Rattle.model.specs.Pool.{open_answer, open_columns, open_records, pool_open, open_highest};
 ghost use Rattle.terms.specs.Says.{reach_says};
-ghost use Rattle.lists.specs.Lent.{entry, exit};
+ghost use Rattle.lists.specs.Lent.{plain};
 ghost use Rattle.terms.specs.Lent.{columns, pool};
 ghost use Rattle.assembly.specs.Says.{load_says};
 
@@ -39,16 +39,16 @@ pub fn open(
     table: &mut Table,
     u: u32,
 ) -> Load
-    ensures answer { load_says result ≡ open_answer (entry sheet) row (length (entry reaches))
-        (columns entry e g l a b k ks h m s cl cb kd start) (pool entry channel storage sediment table) river (entry highest) u }
-    ensures lists { columns exit e g l a b k ks h m s cl cb kd start ≡ open_columns (entry sheet) row (length (entry reaches))
-        (columns entry e g l a b k ks h m s cl cb kd start) (pool entry channel storage sediment table) river (entry highest) u }
-    ensures pool { pool exit channel storage sediment table ≡ pool_open (entry sheet) row (length (entry reaches))
-        (columns entry e g l a b k ks h m s cl cb kd start) (pool entry channel storage sediment table) river (entry highest) u }
-    ensures highest { exit highest ≡ open_highest (entry sheet) row (length (entry reaches))
-        (columns entry e g l a b k ks h m s cl cb kd start) (pool entry channel storage sediment table) river (entry highest) u }
-    ensures records { map reach_says (exit reaches) ≡ open_records (entry sheet) row (map reach_says (entry reaches))
-        (columns entry e g l a b k ks h m s cl cb kd start) (pool entry channel storage sediment table) river (entry highest) u }
+    ensures answer { load_says result ≡ open_answer sheet.now row (length reaches.old)
+        (columns plain e.old g.old l.old a.old b.old k.old ks.old h.old m.old s.old cl.old cb.old kd.old start.old) (pool plain channel.old storage.old sediment.old table.old) river highest.old u }
+    ensures lists { columns plain e.new g.new l.new a.new b.new k.new ks.new h.new m.new s.new cl.new cb.new kd.new start.new ≡ open_columns sheet.now row (length reaches.old)
+        (columns plain e.old g.old l.old a.old b.old k.old ks.old h.old m.old s.old cl.old cb.old kd.old start.old) (pool plain channel.old storage.old sediment.old table.old) river highest.old u }
+    ensures pool { pool plain channel.new storage.new sediment.new table.new ≡ pool_open sheet.now row (length reaches.old)
+        (columns plain e.old g.old l.old a.old b.old k.old ks.old h.old m.old s.old cl.old cb.old kd.old start.old) (pool plain channel.old storage.old sediment.old table.old) river highest.old u }
+    ensures highest { highest.new ≡ open_highest sheet.now row (length reaches.old)
+        (columns plain e.old g.old l.old a.old b.old k.old ks.old h.old m.old s.old cl.old cb.old kd.old start.old) (pool plain channel.old storage.old sediment.old table.old) river highest.old u }
+    ensures records { map reach_says reaches.new ≡ open_records sheet.now row (map reach_says reaches.old)
+        (columns plain e.old g.old l.old a.old b.old k.old ks.old h.old m.old s.old cl.old cb.old kd.old start.old) (pool plain channel.old storage.old sediment.old table.old) river highest.old u }
 {
     let answer = pool::open_lists(
         river,

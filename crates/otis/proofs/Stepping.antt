@@ -23,7 +23,7 @@ use Rattle.model.specs.State.{NumberSet, set_lists, numbers_at, Columns, column_
 use Rattle.model.specs.Refusals.{Place, accepted, refused, Finding, passes, fails, test, first}
 use Rattle.model.specs.Load.{sum_fault}
 use Rattle.model.specs.Highest.{block_count, highest_of, blocks_fault}
-use Rattle.model.specs.Calls.{river_fault, numbers_fault, segment_fault, figure_fault, start_fault, state_fault, old_fault, held_fault, Working, step_tests, step_left, step, result}
+use Rattle.model.specs.Calls.{river_fault, numbers_fault, segment_fault, figure_fault, start_fault, state_fault, old_fault, held_fault, Working, step_tests, step_left, step, call_result}
 use Rattle.model.proofs.Ranges.{inside}
 use Rattle.model.proofs.Refusals.{AllPass, all_pass, test-clear}
 use Rattle.model.proofs.Calls.{result-passes, result-fails}
@@ -165,7 +165,7 @@ module _ (n : ℕ) (old : NumberSet) (x : Columns) (state : State) (blocks : Lis
   step-tests = rw found (first-first (state_tests n x state unfit other u' M) (test 15 (leb M state.steps)) ∙ same_tests (river_fault n (set_lists old)) refl)
 
   pub step-refused : (number : ℕ) (place : Place) → first (finding ∷ test 15 (leb M state.steps) ∷ []) ≡ fails number place →
-      result_with (refused number place) state blocks lent ≡ result n state (step old x blocks lent u' M)
+      result_with (refused number place) state blocks lent ≡ call_result n state (step old x blocks lent u' M)
   step-refused number place e = sym (result-fails n state (step old x blocks lent u' M) (sym step-tests ∙ e))
 
   module _ (e : first (finding ∷ test 15 (leb M state.steps) ∷ []) ≡ passes) where
@@ -233,7 +233,7 @@ module _ (n : ℕ) (old : NumberSet) (x : Columns) (state : State) (blocks : Lis
 
     pub step-accepted : (c z w p y left : List ℕ) → Sweep.Stepped n old x (still state) lent u' c z w p y → left ≡ over (highest_of n c) blocks →
         result_with (accepted (record { upstream = u'; steps = state.steps + 1 }))
-        (Lent.state plain c z w u' (state.steps + 1)) left (Lent.working plain p y) ≡ result n state (step old x blocks lent u' M)
+        (Lent.state plain c z w u' (state.steps + 1)) left (Lent.working plain p y) ≡ call_result n state (step old x blocks lent u' M)
     unfolding step_left write_figures figures_at pair_at
     step-accepted c z w p y left done filled = rw (
       result-passes n state (step old x blocks lent u' M) (sym step-tests ∙ e),

@@ -4,9 +4,9 @@ ghost use Rattle.lists.specs.Lists.{any_under};
 ghost use Rattle.model.specs.Highest.{block_count};
 ghost use Rattle.model.specs.State.{set_lists};
 ghost use Rattle.model.specs.Refusals.{test, first};
-ghost use Rattle.model.specs.Calls.{no_working, Call, result};
+ghost use Rattle.model.specs.Calls.{no_working, Call, call_result};
 ghost use Rattle.terms.specs.Says.{finding_says};
-ghost use Rattle.lists.specs.Lent.{entry, exit};
+ghost use Rattle.lists.specs.Lent.{plain};
 ghost use Rattle.terms.specs.Lent.{set_of, columns_of, state, working};
 ghost use Rattle.otis.specs.Says.{answer_says, report_says};
 ghost use Rattle.otis.specs.Outcomes.{state_after, result_with};
@@ -67,9 +67,9 @@ impl River {
         highest: &mut [u32],
         u: u32,
     ) -> Answer
-        ensures* { λ r. ⌜ ((upstream steps : ℕ) →
-            result_with (answer_says r) (state_after exit channel storage sediment (answer_says r) upstream steps) (exit highest) no_working
-            ≡ result n (state entry channel storage sediment upstream steps) (Call.start (columns_of numbers.entry fixed.entry) (entry highest) u)) ⌝ }
+        ensures { ((upstream steps : ℕ) →
+            result_with (answer_says result) (state_after plain channel.new storage.new sediment.new (answer_says result) upstream steps) highest.new no_working
+            ≡ call_result n (state plain channel.old storage.old sediment.old upstream steps) (Call.start (columns_of numbers.entry fixed.entry) highest.old u)) }
     {
         let found = start_test(
             n,
@@ -115,10 +115,10 @@ impl River {
         u: u32,
         steps: u32,
     ) -> Answer
-        ensures* { λ r. ⌜ result_with (answer_says r) (state_after exit channel storage sediment (answer_says r) self.upstream self.steps)
-            (exit highest) (working exit p y)
-            ≡ result n (state entry channel storage sediment self.upstream self.steps)
-            (Call.step (set_of old.entry) (columns_of new.entry fixed.entry) (entry highest) (working entry p y) u steps) ⌝ }
+        ensures { result_with (answer_says result) (state_after plain channel.new storage.new sediment.new (answer_says result) self.upstream self.steps)
+            highest.new (working plain p.new y.new)
+            ≡ call_result n (state plain channel.old storage.old sediment.old self.upstream self.steps)
+            (Call.step (set_of old.entry) (columns_of new.entry fixed.entry) highest.old (working plain p.old y.old) u steps) }
     {
         let count = n as usize;
         let unfit = others_short(n, highest.len(), p.len(), y.len(), old);
@@ -175,8 +175,8 @@ impl River {
         sediment: &[u32],
         segment: u32,
     ) -> Report
-        ensures* { λ r. ⌜ report_says r ≡ (result n (state entry channel storage sediment self.upstream self.steps)
-            (Call.report (columns_of numbers.entry fixed.entry) segment)).answer ⌝ }
+        ensures { report_says result ≡ (call_result n (state plain channel.now storage.now sediment.now self.upstream self.steps)
+            (Call.report (columns_of numbers.entry fixed.entry) segment)).answer }
     {
         let unfit = outside(Range { low: 1, high: n }, segment as u64);
         let found = state_test(
@@ -206,11 +206,11 @@ impl River {
 // The figures of the segment at i, which counts from 0.
 fn figures_at(i: usize, kd: &[u32], channel: &[u32], storage: &[u32], sediment: &[u32]) -> Figures
     requires { (i < length kd.now) × (i < length channel.now) × (i < length storage.now) × (i < length sediment.now) }
-    ensures* { λ r. ⌜ r ≡ record {
-      channel = get_or (entry channel) i 0;
-      storage = get_or (entry storage) i 0;
-      sediment = get_or (entry kd) i 0 * get_or (entry sediment) i 0;
-    } ⌝ }
+    ensures { result ≡ record {
+      channel = get_or channel.now i 0;
+      storage = get_or storage.now i 0;
+      sediment = get_or kd.now i 0 * get_or sediment.now i 0;
+    } }
 {
     Figures {
         channel: channel[i],
@@ -221,7 +221,7 @@ fn figures_at(i: usize, kd: &[u32], channel: &[u32], storage: &[u32], sediment: 
 
 // Test 13 of what a step alone is lent: the highest figures and the working lists, by their lengths, and the old set.
 fn others_short(n: u32, highest: usize, p: usize, y: usize, old: Set) -> bool
-    ensures* { λ r. ⌜ r ≡ (ltb highest (block_count n) || any_under n (p ∷ y ∷ map length (set_lists (set_of old.entry)))) ⌝ }
+    ensures { result ≡ (ltb highest (block_count n) || any_under n (p ∷ y ∷ map length (set_lists (set_of old.entry)))) }
 {
     if highest < blocks::count(n) {
         return true;
@@ -234,7 +234,7 @@ fn others_short(n: u32, highest: usize, p: usize, y: usize, old: Set) -> bool
 
 // Test 15 behind the others: "M or more steps are done".
 fn or_done(found: Finding, done: u32, steps: u32) -> Finding
-    ensures* { λ r. ⌜ finding_says r ≡ first (finding_says found ∷ test 15 (leb steps done) ∷ []) ⌝ }
+    ensures { finding_says result ≡ first (finding_says found ∷ test 15 (leb steps done) ∷ []) }
 {
     match found {
         Finding::Passes => {

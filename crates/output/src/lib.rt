@@ -1,6 +1,5 @@
 // The text of program `river`: lines gathered in a lent buffer, which is written to standard output when a line might no longer fit.
 ghost use Rattle.std.specs.Prelude.{◌≡◌, false, not, ◌||◌, [], ◌∷◌};
-ghost use Rattle.lists.specs.Lent.{entry, exit};
 ghost use Rattle.output.specs.Text.{ended, heading, line, done, refused};
 ghost use Rattle.output.specs.Outcomes.{Put, due, Flushed, Room, PutLine};
 
@@ -57,7 +56,7 @@ impl Output {
 
     // Makes the write that is due; one of no bytes makes no call of the system.
     pub fn flush(self, buffer: &[u8]) -> Output
-        ensures { Flushed self (entry buffer) result }
+        ensures { Flushed self buffer.now result }
     {
         let due = self.due(buffer.len());
         let bytes = due.bytes;
@@ -67,7 +66,7 @@ impl Output {
 
     // Writes the bytes used where a line might not fit behind them.
     fn room(self, buffer: &[u8]) -> Output
-        ensures { Room self (entry buffer) result }
+        ensures { Room self buffer.now result }
     {
         let used = self.used;
         if used <= buffer.len() {
@@ -79,7 +78,7 @@ impl Output {
     }
 
     fn put_byte(self, buffer: &mut [u8], byte: u8) -> Output
-        ensures { Put (byte ∷ []) self (entry buffer) result (exit buffer) }
+        ensures { Put (byte ∷ []) self buffer.old result buffer.new }
     {
         let used = self.used;
         if used < buffer.len() {
@@ -93,7 +92,7 @@ impl Output {
     }
 
     fn put_text(self, buffer: &mut [u8], text: &[u8]) -> Output
-        ensures { Put (entry text) self (entry buffer) result (exit buffer) }
+        ensures { Put text.now self buffer.old result buffer.new }
     {
         let mut at = self;
         let mut i: usize = 0;
@@ -106,7 +105,7 @@ impl Output {
 
     // A number and the byte that ends it.
     fn put_number(self, buffer: &mut [u8], number: u64, end: u8) -> Output
-        ensures { Put (ended end number) self (entry buffer) result (exit buffer) }
+        ensures { Put (ended end number) self buffer.old result buffer.new }
     {
         let mut digits = [0u8; 20];
         let count = io::decimal(number, &mut digits);
@@ -115,7 +114,7 @@ impl Output {
     }
 
     pub fn put_heading(self, buffer: &mut [u8]) -> Output
-        ensures { PutLine heading self (entry buffer) result (exit buffer) }
+        ensures { PutLine heading self buffer.old result buffer.new }
     {
         let at = self.room(&buffer[..]);
         at.put_text(&mut buffer[..], b"step segment channel storage sediment\n")
@@ -131,7 +130,7 @@ impl Output {
         storage: u32,
         sediment: u64,
     ) -> Output
-        ensures { PutLine (line step segment channel storage sediment) self (entry buffer) result (exit buffer) }
+        ensures { PutLine (line step segment channel storage sediment) self buffer.old result buffer.new }
     {
         let at = self.room(&buffer[..]);
         let at = at.put_number(&mut buffer[..], step as u64, b' ');
@@ -142,7 +141,7 @@ impl Output {
     }
 
     pub fn put_done(self, buffer: &mut [u8], steps: u32) -> Output
-        ensures { PutLine (done steps) self (entry buffer) result (exit buffer) }
+        ensures { PutLine (done steps) self buffer.old result buffer.new }
     {
         let at = self.room(&buffer[..]);
         let at = at.put_text(&mut buffer[..], b"done ");
@@ -150,7 +149,7 @@ impl Output {
     }
 
     pub fn put_refused(self, buffer: &mut [u8], number: u32) -> Output
-        ensures { PutLine (refused number) self (entry buffer) result (exit buffer) }
+        ensures { PutLine (refused number) self buffer.old result buffer.new }
     {
         let at = self.room(&buffer[..]);
         let at = at.put_text(&mut buffer[..], b"refused ");

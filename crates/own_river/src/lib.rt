@@ -1,7 +1,7 @@
 // The sheet's own river in lent lists: its start and its next step, with both sides of a step filled off the sheet. No test is made: what 13 to 15
 // ask is known of an accepted sheet and kept from step to step.
 ghost use Rattle.std.specs.Prelude.{◌<◌, ◌≤◌};
-ghost use Rattle.lists.specs.Lent.{entry, exit};
+ghost use Rattle.lists.specs.Lent.{plain};
 ghost use Rattle.model.specs.Ranges.{highest, most_steps};
 ghost use Rattle.model.specs.Sheet.{flow_row_count};
 ghost use Rattle.terms.specs.Lent.{state, working, LongFigures};
@@ -20,7 +20,7 @@ pub mod sides;
 // Both sides of n segments off the sheet, with the set of the flow in force at this step.
 pub fn hold(sheet: &[u8], steps: u32, n: usize, sides: &mut [u32])
     requires { OfSheet sheet.now n × (n ≤ width sides.old) }
-    ensures { Held (entry sheet) n steps (entry sides) (exit sides) }
+    ensures { Held sheet.now n steps sides.old sides.new }
 {
     fill(sheet, flow_in_force(sheet, steps), n, &mut sides[..]);
     keep(&mut sides[..]);
@@ -38,8 +38,8 @@ pub fn start(
     u: u32,
 ) -> River
     requires { OfSheet sheet.now n × (n ≤ width sides.old) × LongFigures n channel.old storage.old sediment.old × (u ≤ highest) }
-    ensures { Begun (entry sheet) n (entry sides) (state entry channel storage sediment 0 0) u
-        (exit sides) (state exit channel storage sediment result.upstream result.steps) }
+    ensures { Begun sheet.now n sides.old (state plain channel.old storage.old sediment.old 0 0) u
+        sides.new (state plain channel.new storage.new sediment.new result.upstream result.steps) }
 {
     hold(sheet, 0, n, &mut sides[..]);
     copy(n, starts(&sides[..]), &mut channel[..]);
@@ -54,7 +54,7 @@ pub fn start(
 // Another flow than the one held comes into force: its set is filled off the sheet.
 fn fill_other(sheet: &[u8], held: u32, flow: u32, n: usize, sides: &mut [u32])
     requires { OfSheet sheet.now n × (flow ≤ flow_row_count sheet.now) × (n ≤ width sides.old) }
-    ensures { SidesAre (where_other held flow (filled (entry sheet) flow) (sides_of (entry sides))) (entry sides) (exit sides) }
+    ensures { SidesAre (where_other held flow (filled sheet.now flow) (sides_of sides.old)) sides.old sides.new }
 {
     if held != flow {
         fill(sheet, flow, n, &mut sides[..]);
@@ -63,7 +63,7 @@ fn fill_other(sheet: &[u8], held: u32, flow: u32, n: usize, sides: &mut [u32])
 
 // Where one did, its set is then the old side's too.
 fn keep_other(held: u32, flow: u32, sides: &mut [u32])
-    ensures { SidesAre (where_other held flow kept (sides_of (entry sides))) (entry sides) (exit sides) }
+    ensures { SidesAre (where_other held flow kept (sides_of sides.old)) sides.old sides.new }
 {
     if held != flow {
         keep(&mut sides[..]);
@@ -82,9 +82,9 @@ fn sweep(
     p: &mut [u64],
     y: &mut [u64],
 )
-    requires { Sweep.Ready n (sides_of sides.now).old (sides_of sides.now).new (state (λ x. x.now) channel storage sediment u 0) (working (λ x. x.now) p y) next }
-    ensures { Sweep.Stepped n (sides_of (entry sides)).old (sides_of (entry sides)).new (state entry channel storage sediment u 0) (working entry p y) next
-        (exit channel) (exit storage) (exit sediment) (exit p) (exit y) }
+    requires { Sweep.Ready n (sides_of sides.now).old (sides_of sides.now).new (state plain channel.old storage.old sediment.old u 0) (working plain p.old y.old) next }
+    ensures { Sweep.Stepped n (sides_of sides.now).old (sides_of sides.now).new (state plain channel.old storage.old sediment.old u 0) (working plain p.old y.old) next
+        channel.new storage.new sediment.new p.new y.new }
 {
     sweep::step(
         n,
@@ -114,10 +114,10 @@ pub fn step(
     y: &mut [u64],
     u: u32,
 ) -> River
-    requires { Ready sheet.now n sides.old (state (λ x. x.now) channel storage sediment river.upstream river.steps) (working (λ x. x.now) p y)
+    requires { Ready sheet.now n sides.old (state plain channel.old storage.old sediment.old river.upstream river.steps) (working plain p.old y.old)
         × (river.steps < most_steps) × (u ≤ highest) }
-    ensures { Stepped (entry sheet) n (entry sides) (state entry channel storage sediment river.upstream river.steps) (working entry p y) u
-        (exit sides) (state exit channel storage sediment result.upstream result.steps) (working exit p y) }
+    ensures { Stepped sheet.now n sides.old (state plain channel.old storage.old sediment.old river.upstream river.steps) (working plain p.old y.old) u
+        sides.new (state plain channel.new storage.new sediment.new result.upstream result.steps) (working plain p.new y.new) }
 {
     let steps = river.steps + 1;
     let held = flow_in_force(sheet, river.steps);

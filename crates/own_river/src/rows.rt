@@ -1,13 +1,12 @@
 // The rows' U, off the sheet.
 ghost use Rattle.std.specs.Prelude.{◌≡◌};
-ghost use Rattle.lists.specs.Lent.{entry};
 ghost use Rattle.model.specs.OwnRiver.{rows_upstream};
 
 use sheet::fields::{row_concentration, row_count, row_start};
 
 // "U at step j is that of the last row starting at or before j"; 0 where none does, which no accepted sheet has.
 pub fn upstream_at(sheet: &[u8], j: u32) -> u32
-    ensures { result ≡ rows_upstream (entry sheet) j }
+    ensures { result ≡ rows_upstream sheet.now j }
 {
     let mut r = row_count(sheet);
     while r > 0 {

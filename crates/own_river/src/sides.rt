@@ -2,7 +2,6 @@
 // start figures, in the order of their places in `terms`.
 ghost use Rattle.std.specs.Prelude.{◌≡◌, ℕ, ◌<◌, ◌≤◌, List};
 ghost use Rattle.std.specs.Borrow.{Bor};
-ghost use Rattle.lists.specs.Lent.{entry, exit};
 ghost use Rattle.terms.specs.Lent.{set_of, columns_of};
 ghost use Rattle.model.specs.Sheet.{flow_row_count};
 ghost use Rattle.own_river.specs.Sides.{parts, width, part_of, sides_of, Put, with_set, with_segment, segment_says, filled, kept, SidesAre};
@@ -22,7 +21,7 @@ const LISTS: usize = 10;
 // The part with this number.
 fn part<'a>(sides: &'a [u32], k: usize) -> &'a [u32]
     requires { k < parts }
-    ensures { result.now ≡ part_of (entry sides) k }
+    ensures { result.now ≡ part_of sides.now k }
 {
     let width = sides.len() / PARTS;
     let first = k * width;
@@ -33,7 +32,7 @@ fn part<'a>(sides: &'a [u32], k: usize) -> &'a [u32]
 // A figure at place i of a part.
 fn put(sides: &mut [u32], k: usize, i: usize, figure: u32)
     requires { (k < parts) × (i < width sides.old) }
-    ensures { Put k i figure (entry sides) (exit sides) }
+    ensures { Put k i figure sides.old sides.new }
 {
     let width = sides.len() / PARTS;
     sides[k * width + i] = figure;
@@ -42,7 +41,7 @@ fn put(sides: &mut [u32], k: usize, i: usize, figure: u32)
 // Segment i on the new side.
 fn put_segment(sides: &mut [u32], i: usize, numbers: Numbers, own: Reach)
     requires { i < width sides.old }
-    ensures { SidesAre (with_segment i (segment_says numbers own) (sides_of (entry sides))) (entry sides) (exit sides) }
+    ensures { SidesAre (with_segment i (segment_says numbers own) (sides_of sides.old)) sides.old sides.new }
 {
     put(&mut sides[..], 10, i, numbers.e);
     put(&mut sides[..], 11, i, numbers.g);
@@ -63,7 +62,7 @@ fn put_segment(sides: &mut [u32], i: usize, numbers: Numbers, own: Reach)
 // The new side of n segments off the sheet: this flow's set, and the lists that every flow shares.
 pub fn fill(sheet: &[u8], row: u32, n: usize, sides: &mut [u32])
     requires { OfSheet sheet.now n × (row ≤ flow_row_count sheet.now) × (n ≤ width sides.old) }
-    ensures { SidesAre (filled (entry sheet) row (sides_of (entry sides))) (entry sides) (exit sides) }
+    ensures { SidesAre (filled sheet.now row (sides_of sides.old)) sides.old sides.new }
 {
     let top = top_of(sheet, row);
     let dt = dt(sheet);
@@ -89,7 +88,7 @@ pub fn fill(sheet: &[u8], row: u32, n: usize, sides: &mut [u32])
 
 // The new side's set over the old side's.
 pub fn keep(sides: &mut [u32])
-    ensures { SidesAre (kept (sides_of (entry sides))) (entry sides) (exit sides) }
+    ensures { SidesAre (kept (sides_of sides.old)) sides.old sides.new }
 {
     let set = LISTS * (sides.len() / PARTS);
     let mut i: usize = 0;
@@ -101,7 +100,7 @@ pub fn keep(sides: &mut [u32])
 
 // The set of the old side.
 pub fn old<'a>(sides: &'a [u32]) -> Set<'a>
-    ensures { set_of result ≡ (sides_of (entry sides)).old }
+    ensures { set_of result ≡ (sides_of sides.now).old }
 {
     [
         part(sides, 0),
@@ -119,7 +118,7 @@ pub fn old<'a>(sides: &'a [u32]) -> Set<'a>
 
 // The set of the new side.
 pub fn new<'a>(sides: &'a [u32]) -> Set<'a>
-    ensures { set_of result ≡ (sides_of (entry sides)).new.numbers }
+    ensures { set_of result ≡ (sides_of sides.now).new.numbers }
 {
     [
         part(sides, 10),
@@ -137,21 +136,21 @@ pub fn new<'a>(sides: &'a [u32]) -> Set<'a>
 
 // The four lists that every flow shares.
 pub fn fixed<'a>(sides: &'a [u32]) -> Fixed<'a>
-    ensures { (numbers : List (Bor (List ℕ))) → columns_of numbers result ≡ with_set (set_of numbers) (sides_of (entry sides)).new }
+    ensures { (numbers : List (Bor (List ℕ))) → columns_of numbers result ≡ with_set (set_of numbers) (sides_of sides.now).new }
 {
     [part(sides, 20), part(sides, 21), kd(sides), starts(sides)]
 }
 
 // Kd among them.
 pub fn kd<'a>(sides: &'a [u32]) -> &'a [u32]
-    ensures { result.now ≡ (sides_of (entry sides)).new.kd }
+    ensures { result.now ≡ (sides_of sides.now).new.kd }
 {
     part(sides, 22)
 }
 
 // And the start figures.
 pub fn starts<'a>(sides: &'a [u32]) -> &'a [u32]
-    ensures { result.now ≡ (sides_of (entry sides)).new.start }
+    ensures { result.now ≡ (sides_of sides.now).new.start }
 {
     part(sides, 23)
 }

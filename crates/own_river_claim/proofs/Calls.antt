@@ -19,7 +19,7 @@ use Rattle.model.specs.State.{NumberSet, set_lists, numbers_at, Columns, column_
 use Rattle.model.specs.Refusals.{nothing, segment, refused, Finding, passes, fails, test, first}
 use Rattle.model.specs.Load.{river_tests}
 use Rattle.model.specs.Highest.{blocks_fault}
-use Rattle.model.specs.Calls.{Working, river_fault, start_fault, state_fault, old_fault, held_fault, start_figures, start_tests, start_left, step_tests, step_left, start, step, result}
+use Rattle.model.specs.Calls.{Working, river_fault, start_fault, state_fault, old_fault, held_fault, start_figures, start_tests, start_left, step_tests, step_left, start, step, call_result}
 use Rattle.model.specs.Runs.{alone, accepts, after, AsLoaded}
 use Rattle.model.specs.OwnRiver.{own_step, own_start, Alike}
 use Rattle.model.specs.OwnRiverClaim.{StepLent}
@@ -47,7 +47,7 @@ both_long n xs ys e q = rw (shorter-both n xs ys, e, q)
 module _ (sheet : List ℕ) (n : ℕ) (lent : Columns) (before : State) (hs : List ℕ) (u : ℕ) (loaded : AsLoaded sheet n lent)
     (taken : T (accepts before (alone n (start lent hs u)))) where
   start-tests : first (start_tests n lent before hs u) ≡ passes
-  unfolding accepts result
+  unfolding accepts call_result
   start-tests = accepted-passes (start_tests n lent before hs u) _ taken
 
   -- it leaves the sheet's start figures, which are the same for every flow
@@ -138,7 +138,7 @@ module _ (sheet : List ℕ) (front : first (river_tests sheet) ≡ passes) (stat
 
   -- at M 15 is found
   pub step-refused : (u' : ℕ) → outside concentration u' ≡ false → state.steps ≡ steps_m sheet →
-      (result (segment_count sheet) state (step old new hs working u' (steps_m sheet))).answer ≡ refused 15 nothing
+      (call_result (segment_count sheet) state (step old new hs working u' (steps_m sheet))).answer ≡ refused 15 nothing
   step-refused u' range e =
       ap (λ x. x.answer) (result-fails (segment_count sheet) state (step old new hs working u' (steps_m sheet))
       (to-the-last u' range (omega arith) ∙ rw (le-leb (steps_m sheet) state.steps (omega arith))))

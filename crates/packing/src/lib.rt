@@ -2,7 +2,6 @@
 // river's start figures stand behind them; and the table that says so.
 ghost use Rattle.std.specs.Prelude.{◌≡◌, false, cond, map, ◌+◌, ◌<◌, ◌≤◌, length, get_or, set};
 ghost use Rattle.lists.specs.Lists.{tab, over};
-ghost use Rattle.lists.specs.Lent.{entry, exit};
 ghost use Rattle.model.specs.Ranges.{most_segments, most_rivers};
 ghost use Rattle.model.specs.Pool.{slot_at, open_segments, table_fault, holds, covered, covered_below, kept, packed, moved, new_slot};
 ghost use Rattle.terms.specs.Lent.{table_in};
@@ -66,7 +65,7 @@ fn covered_below(table: Table, end: u32) -> u32
 // The entry at s also at `to`, where it is to be kept.
 fn keep_at(list: &mut [u32], is: bool, to: u32, s: u32)
     requires { (to ≤ s) × (s < length list.old) }
-    ensures { exit list ≡ cond is (set (entry list) to (get_or (entry list) s 0)) (entry list) }
+    ensures { list.new ≡ cond is (set list.old to (get_or list.old s 0)) list.old }
 {
     if is {
         let i = s as usize;
@@ -78,7 +77,7 @@ fn keep_at(list: &mut [u32], is: bool, to: u32, s: u32)
 // The open rivers' entries to the front of a shared list, in their order; how many they are.
 fn pack(table: Table, list: &mut [u32]) -> u32
     requires { most_segments ≤ length list.old }
-    ensures list { exit list ≡ over (kept (table_in table) most_segments (entry list)) (entry list) }
+    ensures list { list.new ≡ over (kept (table_in table) most_segments list.old) list.old }
     ensures count { result ≡ covered_below (table_in table) most_segments }
 {
     let mut to: u32 = 0;
@@ -95,7 +94,7 @@ fn pack(table: Table, list: &mut [u32]) -> u32
 // A shared list as an accepted opening leaves it: the open rivers' entries, and behind them the first n of these figures.
 pub fn pack_with(table: Table, n: usize, figures: &[u32], list: &mut [u32])
     requires { (n + open_segments (table_in table) ≤ most_segments) × (n ≤ length figures.now) × (most_segments ≤ length list.old) }
-    ensures { exit list ≡ packed (table_in table) (tab 0 n (λ i. get_or (entry figures) i 0)) (entry list) }
+    ensures { list.new ≡ packed (table_in table) (tab 0 n (λ i. get_or figures.now i 0)) list.old }
 {
     let to = pack(table, list) as usize;
     let end = to + n;
@@ -123,7 +122,7 @@ fn moved_slot(table: Table, i: usize) -> Slot
 // All of them.
 fn move_slots(table: &mut Table)
     requires { table_fault (table_in table.old) ≡ false }
-    ensures { table_in (exit table) ≡ map (moved (table_in (entry table))) (table_in (entry table)) }
+    ensures { table_in table.new ≡ map (moved (table_in table.old)) (table_in table.old) }
 {
     let before = *table;
     let mut i: usize = 0;
@@ -136,7 +135,7 @@ fn move_slots(table: &mut Table)
 // The table of an accepted opening: the open rivers as they have moved, and the new one, of n segments, at place i.
 pub fn pack_table(table: &mut Table, i: usize, n: u32, u: u32)
     requires { table_fault (table_in table.old) ≡ false }
-    ensures { table_in (exit table) ≡ set (map (moved (table_in (entry table))) (table_in (entry table))) i (new_slot (table_in (entry table)) n u) }
+    ensures { table_in table.new ≡ set (map (moved (table_in table.old)) (table_in table.old)) i (new_slot (table_in table.old) n u) }
 {
     let first = covered_below(*table, MOST_SEGMENTS);
     move_slots(table);

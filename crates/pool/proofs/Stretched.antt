@@ -9,7 +9,7 @@ use Rattle.lists.proofs.Stretch.{splice-back, splice-self}
 use Rattle.model.specs.Ranges.{most_segments, most_rivers}
 use Rattle.model.specs.State.{NumberSet, Columns, State}
 use Rattle.model.specs.Refusals.{Place, Outcome, accepted, refused, Finding, passes, fails, first, left_after}
-use Rattle.model.specs.Calls.{River, Working, Call, start, step, report, call_tests, Values, result}
+use Rattle.model.specs.Calls.{River, Working, Call, start, step, report, call_tests, Values, call_result}
 use Rattle.model.specs.Pool.{Slot, end_of, slot_of, Pool, state_of, with_state, pool_result}
 use Rattle.model.proofs.Refusals.{first_rest}
 use Rattle.model.proofs.Calls.{lent-beside, result-passes, result-fails, refused-still}
@@ -100,7 +100,7 @@ module _ (p : Pool) (number : ℕ) (x : Slot) (e : x ≡ slot_of p.table number)
 module _ (p : Pool) (number : ℕ) (pass : first (front_tests p number) ≡ passes) (call : Call) where
   -- of a call that leaves this state
   on-pool : (a : Outcome (Values call)) (s : State) (highest : List ℕ) (working : Working) (later : Pool) →
-      result_with a s highest working ≡ result (slot_of p.table number).segments (state_of p number) call → later ≡ left_after a p (with_state p number s) →
+      result_with a s highest working ≡ call_result (slot_of p.table number).segments (state_of p number) call → later ≡ left_after a p (with_state p number s) →
       result_with a later highest working ≡ pool_result p number call
   on-pool a s highest working later o l = go (first (call_tests n (state_of p number) call)) refl
     where
@@ -122,7 +122,7 @@ module _ (p : Pool) (number : ℕ) (pass : first (front_tests p number) ≡ pass
 module _ (p : Pool) (number : ℕ) (x : Slot) (e : x ≡ slot_of p.table number) (pass : first (front_tests p number) ≡ passes) where
   -- document 01's call on the parts is that on the river's state
   on-state : (call : Call) →
-      result x.segments (parts x p.channel p.storage p.sediment x.upstream x.steps) call ≡ result (slot_of p.table number).segments (state_of p number) call
+      call_result x.segments (parts x p.channel p.storage p.sediment x.upstream x.steps) call ≡ call_result (slot_of p.table number).segments (state_of p number) call
   on-state call = rw (parts_are p number x e, ap (λ (y : Slot). y.segments) e)
 
   -- a start or a step
@@ -135,7 +135,7 @@ module _ (p : Pool) (number : ℕ) (x : Slot) (e : x ≡ slot_of p.table number)
     came-back = written p number x e a c z w table t
 
     pub started : (cols : Columns) (lent : List ℕ) (u : ℕ) →
-        result_with a left highest working ≡ result x.segments (parts x p.channel p.storage p.sediment x.upstream x.steps) (start cols lent u) →
+        result_with a left highest working ≡ call_result x.segments (parts x p.channel p.storage p.sediment x.upstream x.steps) (start cols lent u) →
         result_with a (returned p x table c z w) highest working ≡ pool_result p number (start cols lent u)
     started cols lent u o =
         let o = o ∙ on-state (start cols lent u) in
@@ -143,7 +143,7 @@ module _ (p : Pool) (number : ℕ) (x : Slot) (e : x ≡ slot_of p.table number)
         (came-back (λ k place q. ap (λ x. x.left.state) o ∙ refused-still _ _ (start cols lent u) (sym (ap (λ x. x.answer) o) ∙ q)))
 
     pub stepped : (old : NumberSet) (new : Columns) (lent : List ℕ) (works : Working) (u' M : ℕ) →
-        result_with a left highest working ≡ result x.segments (parts x p.channel p.storage p.sediment x.upstream x.steps) (step old new lent works u' M) →
+        result_with a left highest working ≡ call_result x.segments (parts x p.channel p.storage p.sediment x.upstream x.steps) (step old new lent works u' M) →
         result_with a (returned p x table c z w) highest working ≡ pool_result p number (step old new lent works u' M)
     stepped old new lent works u' M o =
         let o = o ∙ on-state (step old new lent works u' M) in
@@ -152,6 +152,6 @@ module _ (p : Pool) (number : ℕ) (x : Slot) (e : x ≡ slot_of p.table number)
 
   -- a report
   pub reports : (cols : Columns) (segment : ℕ) →
-      (result x.segments (parts x p.channel p.storage p.sediment x.upstream x.steps) (report cols segment)).answer
+      (call_result x.segments (parts x p.channel p.storage p.sediment x.upstream x.steps) (report cols segment)).answer
       ≡ (pool_result p number (report cols segment)).answer
   reports cols segment = ap (λ x. x.answer) (on-state (report cols segment)) ∙ sym (alike p number (report cols segment) pass).answer

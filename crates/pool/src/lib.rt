@@ -1,7 +1,7 @@
 // The calls on a pool: a table and three lists that up to eight rivers share. Each river works on its own stretch of the lists.
 ghost use Rattle.std.specs.Prelude.{◌≡◌, false, ◌||◌, [], ◌∷◌, ◌+◌, ◌≤◌, ltb, length};
 ghost use Rattle.lists.specs.Lists.{any_under};
-ghost use Rattle.lists.specs.Lent.{entry, exit};
+ghost use Rattle.lists.specs.Lent.{plain};
 ghost use Rattle.model.specs.Ranges.{outside, concentration, most_segments};
 ghost use Rattle.model.specs.Sheet.{segment_count};
 ghost use Rattle.model.specs.Highest.{block_count};
@@ -36,7 +36,7 @@ pub fn pool_test(
     sediment: &[u32],
     table: &Table,
 ) -> Finding
-    ensures { finding_says result ≡ first (pool_tests (table_in (entry table)) (shared_lists (pool entry channel storage sediment table)) river) }
+    ensures { finding_says result ≡ first (pool_tests (table_in table.now) (shared_lists (pool plain channel.now storage.now sediment.now table.now)) river) }
 {
     if number_fault(*table, river) {
         return Finding::Fails(18, Place::Nothing);
@@ -49,7 +49,7 @@ pub fn pool_test(
 
 // Puts U and the count of an accepted start or step into the river's slot; of a refused one nothing.
 fn keep(answer: Answer, table: &mut Table, i: usize, x: Slot)
-    ensures { table_in (exit table) ≡ table_after (answer_says answer) (table_in (entry table)) i (slot_says x) }
+    ensures { table_in table.new ≡ table_after (answer_says answer) (table_in table.old) i (slot_says x) }
 {
     match answer {
         Answer::Accepted(river) => put(table, i, slot_with(x, river.upstream, river.steps)),
@@ -69,8 +69,8 @@ pub fn start(
     table: &mut Table,
     u: u32,
 ) -> Answer
-    ensures { result_with (answer_says result) (pool exit channel storage sediment table) (exit highest) no_working
-        ≡ pool_result (pool entry channel storage sediment table) river (Call.start (columns_of numbers.entry fixed.entry) (entry highest) u) }
+    ensures { result_with (answer_says result) (pool plain channel.new storage.new sediment.new table.new) highest.new no_working
+        ≡ pool_result (pool plain channel.old storage.old sediment.old table.old) river (Call.start (columns_of numbers.entry fixed.entry) highest.old u) }
 {
     let found = pool_test(river, &channel[..], &storage[..], &sediment[..], &*table);
     if let Finding::Fails(number, place) = found {
@@ -110,9 +110,9 @@ pub fn step(
     u: u32,
     steps: u32,
 ) -> Answer
-    ensures { result_with (answer_says result) (pool exit channel storage sediment table) (exit highest) (working exit p y)
-        ≡ pool_result (pool entry channel storage sediment table) river
-        (Call.step (set_of old.entry) (columns_of new.entry fixed.entry) (entry highest) (working entry p y) u steps) }
+    ensures { result_with (answer_says result) (pool plain channel.new storage.new sediment.new table.new) highest.new (working plain p.new y.new)
+        ≡ pool_result (pool plain channel.old storage.old sediment.old table.old) river
+        (Call.step (set_of old.entry) (columns_of new.entry fixed.entry) highest.old (working plain p.old y.old) u steps) }
 {
     let found = pool_test(river, &channel[..], &storage[..], &sediment[..], &*table);
     if let Finding::Fails(number, place) = found {
@@ -155,7 +155,7 @@ pub fn report(
     table: &Table,
     segment: u32,
 ) -> Report
-    ensures { report_says result ≡ (pool_result (pool entry channel storage sediment table) river
+    ensures { report_says result ≡ (pool_result (pool plain channel.now storage.now sediment.now table.now) river
         (Call.report (columns_of numbers.entry fixed.entry) segment)).answer }
 {
     let found = pool_test(river, channel, storage, sediment, table);
@@ -182,8 +182,8 @@ pub fn report(
 
 // A closing: 18 alone.
 pub fn close(river: u32, table: &mut Table) -> Finding
-    ensures answer { finding_says result ≡ close_finding (table_in (entry table)) river }
-    ensures table { table_in (exit table) ≡ closed_table (table_in (entry table)) river }
+    ensures answer { finding_says result ≡ close_finding (table_in table.old) river }
+    ensures table { table_in table.new ≡ closed_table (table_in table.old) river }
 {
     if number_fault(*table, river) {
         return Finding::Fails(18, Place::Nothing);
@@ -207,8 +207,8 @@ pub fn close(river: u32, table: &mut Table) -> Finding
 // 17, and then 18 of the table alone, behind tests 1 to 12.
 fn room_test(found: Finding, sheet: &[u8], table: &Table, river: u32) -> Finding
     requires { finding_says found ≡ passes → segment_count sheet.now ≤ most_segments }
-    ensures { finding_says result ≡ first (finding_says found ∷ test 17 (room_fault (table_in (entry table)) river (segment_count (entry sheet)))
-        ∷ test 18 (table_fault (table_in (entry table))) ∷ []) }
+    ensures { finding_says result ≡ first (finding_says found ∷ test 17 (room_fault (table_in table.now) river (segment_count sheet.now))
+        ∷ test 18 (table_fault (table_in table.now)) ∷ []) }
 {
     if let Finding::Fails(number, place) = found {
         return Finding::Fails(number, place);
@@ -226,7 +226,7 @@ fn room_test(found: Finding, sheet: &[u8], table: &Table, river: u32) -> Finding
 fn last_test(found: Finding, sheet: &[u8], shared: &[usize], highest: usize, u: u32) -> Finding
     requires { finding_says found ≡ passes → segment_count sheet.now ≤ most_segments }
     ensures { finding_says result ≡ first (finding_says found
-        ∷ test 13 (any_under most_segments (entry shared) || ltb highest (block_count (segment_count (entry sheet)))) ∷ test 14 (outside concentration u) ∷ []) }
+        ∷ test 13 (any_under most_segments shared.now || ltb highest (block_count (segment_count sheet.now))) ∷ test 14 (outside concentration u) ∷ []) }
 {
     if let Finding::Fails(number, place) = found {
         return Finding::Fails(number, place);
@@ -246,7 +246,7 @@ fn last_test(found: Finding, sheet: &[u8], shared: &[usize], highest: usize, u: 
 // A shared list after this answer to an opening; `figures` are the new river's start figures.
 fn pack_if(answer: Load, table: Table, figures: &[u32], list: &mut [u32])
     requires { WhereLoaded (load_says answer) (λ n. (n + open_segments (table_in table) ≤ most_segments) × (n ≤ length figures.now) × (most_segments ≤ length list.old)) }
-    ensures { exit list ≡ list_after_open (load_says answer) (table_in table) (entry figures) (entry list) }
+    ensures { list.new ≡ list_after_open (load_says answer) (table_in table) figures.now list.old }
 {
     if let Load::Loaded(v) = answer {
         pack_with(table, v.segments as usize, figures, list);
@@ -256,7 +256,7 @@ fn pack_if(answer: Load, table: Table, figures: &[u32], list: &mut [u32])
 // The highest figures after it: those of the new river's start figures.
 fn fill_if(answer: Load, figures: &[u32], highest: &mut [u32])
     requires { WhereLoaded (load_says answer) (λ n. (n ≤ most_segments) × (n ≤ length figures.now) × (block_count n ≤ length highest.old)) }
-    ensures { exit highest ≡ highest_after_open (load_says answer) (entry figures) (entry highest) }
+    ensures { highest.new ≡ highest_after_open (load_says answer) figures.now highest.old }
 {
     if let Load::Loaded(v) = answer {
         blocks::fill(v.segments as usize, figures, highest);
@@ -266,7 +266,7 @@ fn fill_if(answer: Load, figures: &[u32], highest: &mut [u32])
 // The table after it.
 fn pack_table_if(answer: Load, table: &mut Table, river: u32, u: u32)
     requires { WhereLoaded (load_says answer) (λ n. (1 ≤ river) × (table_fault (table_in table.old) ≡ false)) }
-    ensures { table_in (exit table) ≡ table_after_open (load_says answer) (table_in (entry table)) river u }
+    ensures { table_in table.new ≡ table_after_open (load_says answer) (table_in table.old) river u }
 {
     if let Load::Loaded(v) = answer {
         pack_table(table, river as usize - 1, v.segments, u);
@@ -301,14 +301,14 @@ pub fn open_lists(
     table: &mut Table,
     u: u32,
 ) -> Load
-    ensures answer { load_says result ≡ open_answer (entry sheet) row records (columns entry e g l a b k ks h m s cl cb kd start)
-        (pool entry channel storage sediment table) river (entry highest) u }
-    ensures lists { columns exit e g l a b k ks h m s cl cb kd start ≡ open_columns (entry sheet) row records (columns entry e g l a b k ks h m s cl cb kd start)
-        (pool entry channel storage sediment table) river (entry highest) u }
-    ensures pool { pool exit channel storage sediment table ≡ pool_open (entry sheet) row records (columns entry e g l a b k ks h m s cl cb kd start)
-        (pool entry channel storage sediment table) river (entry highest) u }
-    ensures highest { exit highest ≡ open_highest (entry sheet) row records (columns entry e g l a b k ks h m s cl cb kd start)
-        (pool entry channel storage sediment table) river (entry highest) u }
+    ensures answer { load_says result ≡ open_answer sheet.now row records (columns plain e.old g.old l.old a.old b.old k.old ks.old h.old m.old s.old cl.old cb.old kd.old start.old)
+        (pool plain channel.old storage.old sediment.old table.old) river highest.old u }
+    ensures lists { columns plain e.new g.new l.new a.new b.new k.new ks.new h.new m.new s.new cl.new cb.new kd.new start.new ≡ open_columns sheet.now row records (columns plain e.old g.old l.old a.old b.old k.old ks.old h.old m.old s.old cl.old cb.old kd.old start.old)
+        (pool plain channel.old storage.old sediment.old table.old) river highest.old u }
+    ensures pool { pool plain channel.new storage.new sediment.new table.new ≡ pool_open sheet.now row records (columns plain e.old g.old l.old a.old b.old k.old ks.old h.old m.old s.old cl.old cb.old kd.old start.old)
+        (pool plain channel.old storage.old sediment.old table.old) river highest.old u }
+    ensures highest { highest.new ≡ open_highest sheet.now row records (columns plain e.old g.old l.old a.old b.old k.old ks.old h.old m.old s.old cl.old cb.old kd.old start.old)
+        (pool plain channel.old storage.old sediment.old table.old) river highest.old u }
 {
     let listed = list_test(
         room_test(river_test(sheet), sheet, &*table, river),

@@ -13,7 +13,7 @@ use Rattle.model.specs.Sheet.{Reach}
 use Rattle.model.specs.State.{Columns, State}
 use Rattle.model.specs.Refusals.{accepted, passes, first}
 use Rattle.model.specs.Load.{loaded, load_answer}
-use Rattle.model.specs.Calls.{start, result}
+use Rattle.model.specs.Calls.{start, call_result}
 use Rattle.model.specs.Search.{SearchAnswer}
 use Rattle.model.specs.Runs.{LoneCall, alone, accepts, after, run, OwnLists, AsLoaded, Fed}
 use Rattle.model.specs.Pool.{is_open, slot_of, Pool, shared_lists, state_of, number_fault, shared_fault, pool_result, close_finding}
@@ -121,8 +121,8 @@ module _ (pool : Pool) (number : ℕ) (sound : Sound pool) where
         record {
           figures = state;
           calls = λ call.
-              subst (λ n. Alike (pool_result pool number call) (result n (run before (own_calls own)) call)) f.segments
-              (subst (λ (x : State). Alike (pool_result pool number call) (result (slot_of pool.table number).segments x call)) state (alike pool number call pass));
+              subst (λ n. Alike (pool_result pool number call) (call_result n (run before (own_calls own)) call)) f.segments
+              (subst (λ (x : State). Alike (pool_result pool number call) (call_result (slot_of pool.table number).segments x call)) state (alike pool number call pass));
           searches = λ highest limit answer s.
               subst (λ (x : State). SearchAnswer own.count x.channel highest limit answer) state
               (subst (λ n. SearchAnswer n (state_of pool number).channel highest limit answer) f.segments (search-alone pool number pass highest limit answer s));

@@ -12,7 +12,7 @@ use Rattle.model.specs.State.{Columns, State, loaded_segments, write_segments}
 use Rattle.model.specs.Refusals.{passes, first, accepted}
 use Rattle.model.specs.Load.{loaded, load_answer}
 use Rattle.model.specs.Highest.{highest_of}
-use Rattle.model.specs.Calls.{no_working, start_figures, start_tests, start_left, start, result}
+use Rattle.model.specs.Calls.{no_working, start_figures, start_tests, start_left, start, call_result}
 use Rattle.model.specs.Runs.{alone, accepts, after, run, OwnLists}
 use Rattle.model.specs.Pool.{Pool, pool_after_open}
 use Rattle.model.specs.PoolRuns.{Own}
@@ -55,7 +55,7 @@ module _ (pool : Pool) (number : ℕ) (sheet : List ℕ) (r records : ℕ) (colu
   passed before lists = start-passes sheet r records columns p.front p.lists before lists highest p.blocks u p.upstream
 
   -- the start made alone leaves the start figures, and the highest of them
-  pub start_left_lem : (before : State) → OwnLists (segment_count sheet) before → result (segment_count sheet) before (start new_columns highest u) ≡ record {
+  pub start_left_lem : (before : State) → OwnLists (segment_count sheet) before → call_result (segment_count sheet) before (start new_columns highest u) ≡ record {
     answer = accepted (record { upstream = u; steps = 0 });
     left = record {
       state = started_state sheet r u;

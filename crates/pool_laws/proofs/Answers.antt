@@ -8,7 +8,7 @@ use Rattle.lists.proofs.Shorter.{none-shorter}
 use Rattle.model.specs.Ranges.{most_segments}
 use Rattle.model.specs.State.{State}
 use Rattle.model.specs.Refusals.{Place, Outcome, accepted, refused, Finding, passes, fails, first, answer, left_after}
-use Rattle.model.specs.Calls.{Left, Call, call_tests, call_values, call_left, call_lent, result}
+use Rattle.model.specs.Calls.{Left, Call, call_tests, call_values, call_left, call_lent, call_result}
 use Rattle.model.specs.Search.{search_tests, Searches, SearchAnswer}
 use Rattle.model.specs.Pool.{Pool, shared_lists, slot_of, state_of, with_state, number_fault, shared_fault, pool_tests, pool_result, pool_search_tests, PoolSearchAnswer}
 use Rattle.model.specs.PoolClaim.{Alike}
@@ -51,8 +51,8 @@ module _ (pool : Pool) (number : ℕ) where
     pool_left = let left = call_left count here call in record { state = with_state pool number left.state; highest = left.highest; working = left.working }
 
     -- where the pool's own tests pass, the river's call answers what it answers alone, and leaves the highest figures and the working lists alike
-    pub alike : first (front_tests pool number) ≡ passes → Alike (pool_result pool number call) (result count here call)
-    unfolding pool_result result
+    pub alike : first (front_tests pool number) ≡ passes → Alike (pool_result pool number call) (call_result count here call)
+    unfolding pool_result call_result
     alike pass =
         let rest = first_rest (front_tests pool number) (call_tests count here call) pass in
         let found = first (call_tests count here call) in

@@ -1,7 +1,6 @@
 // The table of a pool, which is lent as forty numbers, five for each of eight slots: a slot taken out and put in, and tests 17 and 18.
 ghost use Rattle.std.specs.Prelude.{◌≡◌, cond, ◌||◌, ◌<◌, ◌≤◌, set};
 ghost use Rattle.lists.specs.Lists.{any_below};
-ghost use Rattle.lists.specs.Lent.{entry, exit};
 ghost use Rattle.model.specs.Ranges.{most_rivers};
 ghost use Rattle.model.specs.Pool.{is_open, end_of, slot_at, slot_with, open_segments, room_fault, passes_end, overlap, table_fault, number_fault};
 ghost use Rattle.terms.specs.Lent.{table_in};
@@ -70,7 +69,7 @@ fn with_slot(mut table: Table, i: usize, x: Slot) -> Table
 
 // Puts this slot at place i of a table. Past the last place nothing is written.
 pub fn put(table: &mut Table, i: usize, x: Slot)
-    ensures { table_in (exit table) ≡ set (table_in (entry table)) i (slot_says x) }
+    ensures { table_in table.new ≡ set (table_in table.old) i (slot_says x) }
 {
     if i < RIVERS {
         *table = with_slot(*table, i, x);

@@ -2,7 +2,6 @@
 ghost use Rattle.std.specs.Prelude.{◌≡◌, map, set, get_or};
 ghost use Rattle.model.specs.Sheet.{reach_count};
 ghost use Rattle.terms.specs.Says.{reach_says};
-ghost use Rattle.lists.specs.Lent.{entry, exit};
 ghost use Rattle.assembly.specs.Says.{load_says};
 ghost use Rattle.records.specs.Records.{no_reach, filled, fill_count};
 
@@ -32,7 +31,7 @@ pub const NO_REACH: Reach = Reach {
 
 // Puts a record at place i, which counts from 0. Past the end of the list nothing is written.
 pub fn put(reaches: &mut [Reach], i: usize, value: Reach)
-    ensures { exit reaches ≡ set (entry reaches) i value }
+    ensures { reaches.new ≡ set reaches.old i value }
 {
     if i < reaches.len() {
         reaches[i] = value;
@@ -41,7 +40,7 @@ pub fn put(reaches: &mut [Reach], i: usize, value: Reach)
 
 // The record at place i, which counts from 0. Past the end of the list it is a record of zeros.
 pub fn take(reaches: &[Reach], i: usize) -> Reach
-    ensures { result ≡ get_or (entry reaches) i no_reach }
+    ensures { result ≡ get_or reaches.now i no_reach }
 {
     if reaches.len() <= i {
         NO_REACH
@@ -52,7 +51,7 @@ pub fn take(reaches: &[Reach], i: usize) -> Reach
 
 // Fills the first `count` entries from the sheet, as far as the list reaches; the others stay.
 pub fn fill(reaches: &mut [Reach], sheet: &[u8], count: usize)
-    ensures { map reach_says (exit reaches) ≡ filled (entry sheet) count (map reach_says (entry reaches)) }
+    ensures { map reach_says reaches.new ≡ filled sheet.now count (map reach_says reaches.old) }
 {
     let mut i: usize = 0;
     while i < count {
@@ -73,7 +72,7 @@ fn count_if(answer: Load, reaches: usize) -> usize
 
 // How many entries a loading with this answer fills.
 pub fn fill_count(answer: Load, sheet: &[u8]) -> usize
-    ensures { result ≡ fill_count (load_says answer) (reach_count (entry sheet)) }
+    ensures { result ≡ fill_count (load_says answer) (reach_count sheet.now) }
 {
     count_if(answer, reach_count(sheet) as usize)
 }

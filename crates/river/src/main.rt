@@ -1,6 +1,6 @@
 // Program river: reads a river sheet on standard input and prints its listing, or `refused` and the number of the refusal.
 ghost use Rattle.std.specs.Prelude.{◌≡◌, cond, ◌≤◌, length};
-ghost use Rattle.lists.specs.Lent.{entry, exit};
+ghost use Rattle.lists.specs.Lent.{plain};
 ghost use Rattle.model.specs.Refusals.{passes, first};
 ghost use Rattle.model.specs.Load.{river_tests};
 ghost use Rattle.model.specs.Sheet.{steps_m};
@@ -48,10 +48,10 @@ fn run(
     out: Output,
     buffer: &mut [u8],
 ) -> Output
-    requires { Ready sheet.now n sides.old (state (λ x. x.now) channel storage sediment river.upstream river.steps) (working (λ x. x.now) p y)
+    requires { Ready sheet.now n sides.old (state plain channel.old storage.old sediment.old river.upstream river.steps) (working plain p.old y.old)
         × (river.steps ≤ steps_m sheet.now) }
-    ensures { Ran (entry sheet) n (state entry channel storage sediment river.upstream river.steps) out (entry buffer)
-        (exit sides) (exit channel) (exit storage) (exit sediment) (working exit p y) result (exit buffer) }
+    ensures { Ran sheet.now n (state plain channel.old storage.old sediment.old river.upstream river.steps) out buffer.old
+        sides.new channel.new storage.new sediment.new (working plain p.new y.new) result buffer.new }
 {
     let mut river = river;
     let mut out = out;
@@ -89,7 +89,7 @@ fn run(
 // The listing of an accepted sheet: its river is started and run.
 fn put_listing(sheet: &[u8], buffer: &mut [u8]) -> Output
     requires { first (river_tests sheet.now) ≡ passes }
-    ensures { PutSheet (entry sheet) (entry buffer) result (exit buffer) }
+    ensures { PutSheet sheet.now buffer.old result buffer.new }
 {
     let n = segment_count(sheet);
     let mut sides = [0u32; PARTS * ROOM];
@@ -125,7 +125,7 @@ fn put_listing(sheet: &[u8], buffer: &mut [u8]) -> Output
 
 // What is put of these bytes: "A refused sheet prints only `refused` and its number."
 fn put_sheet(sheet: &[u8], buffer: &mut [u8]) -> Output
-    ensures { PutSheet (entry sheet) (entry buffer) result (exit buffer) }
+    ensures { PutSheet sheet.now buffer.old result buffer.new }
 {
     let found = river_test(sheet);
     match found {
@@ -137,7 +137,7 @@ fn put_sheet(sheet: &[u8], buffer: &mut [u8]) -> Output
 // And printed, with the last write made.
 fn print(sheet: &[u8], buffer: &mut [u8]) -> Output
     requires { longest ≤ length buffer.old }
-    ensures { Printed (entry sheet) (entry buffer) result (exit buffer) }
+    ensures { Printed sheet.now buffer.old result buffer.new }
 {
     let out = put_sheet(sheet, &mut buffer[..]);
     out.flush(&buffer[..])

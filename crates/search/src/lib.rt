@@ -1,6 +1,5 @@
 // Is any of the river above the limit? The search looks only into blocks of sixteen segments whose highest figure is above it.
 ghost use Rattle.std.specs.Prelude.{◌≡◌, ◌||◌, ◌≤◌, ltb, length};
-ghost use Rattle.lists.specs.Lent.{entry};
 ghost use Rattle.model.specs.Ranges.{◌to◌, outside, most_segments};
 ghost use Rattle.model.specs.Highest.{block_count};
 ghost use Rattle.model.specs.Search.{SearchAnswer};
@@ -24,7 +23,7 @@ pub enum Search {
 // The loops over the blocks and their segments; both are left with the segment found.
 fn find(n: usize, channel: &[u32], highest: &[u32], limit: u32) -> Search
     requires { (n ≤ most_segments) × (n ≤ length channel.now) × (block_count n ≤ length highest.now) }
-    ensures { FindsSays n (entry channel) (entry highest) limit result }
+    ensures { FindsSays n channel.now highest.now limit result }
 {
     let mut found = Search::Nothing;
     let mut b: usize = 0;
@@ -58,7 +57,7 @@ fn fault(n: u32, channel: usize, highest: usize) -> bool
 
 // The search of a river whose lists are its own: 13 alone. Which segment it names is left open, but for what `SearchAnswer` says of it.
 pub fn alone(n: u32, channel: &[u32], highest: &[u32], limit: u32) -> Search
-    ensures { SearchAnswer n (entry channel) (entry highest) limit (search_says result) }
+    ensures { SearchAnswer n channel.now highest.now limit (search_says result) }
 {
     if fault(n, channel.len(), highest.len()) {
         return Search::Refused(13, Place::Nothing);
@@ -68,7 +67,7 @@ pub fn alone(n: u32, channel: &[u32], highest: &[u32], limit: u32) -> Search
 
 // The search of an open river on a pool: 18, and 13, which wants 1,024 entries of the one shared list that it is lent.
 pub fn on_pool(river: u32, channel: &[u32], highest: &[u32], table: &Table, limit: u32) -> Search
-    ensures { PoolSearchAnswer (table_in (entry table)) (entry channel) river (entry highest) limit (search_says result) }
+    ensures { PoolSearchAnswer (table_in table.now) channel.now river highest.now limit (search_says result) }
 {
     if number_fault(*table, river) {
         return Search::Refused(18, Place::Nothing);

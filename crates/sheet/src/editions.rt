@@ -3,7 +3,6 @@ ghost use Rattle.std.specs.Prelude.{◌≡◌, List, ℕ, ◌+◌, ◌<◌, ◌�
 ghost use Rattle.model.specs.Ranges.{reach_section, band_section};
 ghost use Rattle.model.specs.Sheet as Document;
 ghost use Rattle.model.specs.Sheet.{starts_with, edition, reach_count, sections};
-ghost use Rattle.lists.specs.Lent.{entry};
 ghost use Rattle.limits.specs.Says.{section_says};
 
 use limits::{BANDS, FLOW_ROWS, GAUGES, REACHES, ROWS, Section};
@@ -11,7 +10,7 @@ use limits::{BANDS, FLOW_ROWS, GAUGES, REACHES, ROWS, Section};
 // The sheet starts with these four bytes.
 fn starts_with(sheet: &[u8], mark: &[u8]) -> bool
     requires { length mark.now ≡ 4 }
-    ensures { result ≡ starts_with (entry mark) (entry sheet) }
+    ensures { result ≡ starts_with mark.now sheet.now }
 {
     if sheet.len() < 4 {
         return false;
@@ -21,7 +20,7 @@ fn starts_with(sheet: &[u8], mark: &[u8]) -> bool
 
 // 0 for "Fewer than four bytes, or another mark."
 pub fn edition(sheet: &[u8]) -> u32
-    ensures { result ≡ edition (entry sheet) }
+    ensures { result ≡ edition sheet.now }
 {
     if starts_with(sheet, b"OTR1") {
         return 1;

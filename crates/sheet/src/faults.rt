@@ -7,7 +7,6 @@ ghost use Rattle.model.specs.Refusals as Document;
 ghost use Rattle.model.specs.Refusals.{test_each};
 ghost use Rattle.model.specs.Load.{starts_late, row_fault, gauge_fault, flow_row_fault};
 ghost use Rattle.terms.specs.Says.{finding_says};
-ghost use Rattle.lists.specs.Lent.{entry};
 ghost use Rattle.limits.specs.Says.{range_says};
 ghost use Rattle.sheet.specs.Entries.{Before, IsRow, IsGauge, count_of, rising_of, fault_of};
 
@@ -24,7 +23,7 @@ use terms::{Finding, Place};
 
 // 5. "A header field is outside its range."
 pub fn header_fault(sheet: &[u8]) -> bool
-    ensures { let s = entry sheet in result ≡ any_outside (header_ranges (steps_m s)) (header s) }
+    ensures { let s = sheet.now in result ≡ any_outside (header_ranges (steps_m s)) (header s) }
 {
     let most = steps(sheet);
     outside(DT, dt(sheet) as u64)
@@ -63,7 +62,7 @@ fn reach_range(edition: u32, k: usize) -> Range
 
 // A field of reach i is outside its range.
 pub fn reach_fault(sheet: &[u8], i: usize) -> bool
-    ensures { result ≡ any_outside (reach_ranges (edition (entry sheet))) (reach_fields (entry sheet) i) }
+    ensures { result ≡ any_outside (reach_ranges (edition sheet.now)) (reach_fields sheet.now i) }
 {
     let edition = edition(sheet);
     let width = reach_section(edition).width as usize;
@@ -82,7 +81,7 @@ pub fn reach_fault(sheet: &[u8], i: usize) -> bool
 
 // 6. "A reach field is outside its range (reach)."
 pub fn reach_test(sheet: &[u8]) -> Finding
-    ensures { let s = entry sheet in finding_says result ≡ test_each 6 Document.reach (reach_count s)
+    ensures { let s = sheet.now in finding_says result ≡ test_each 6 Document.reach (reach_count s)
         (λ i. any_outside (reach_ranges (edition s)) (reach_fields s i)) }
 {
     let count = reach_count(sheet);
@@ -161,7 +160,7 @@ struct Judged {
 }
 
 fn count_of(sheet: &[u8], entries: Entries) -> u32
-    ensures { result ≡ count_of entries (entry sheet) }
+    ensures { result ≡ count_of entries sheet.now }
 {
     match entries {
         Entries::Rows(_) => row_count(sheet),
@@ -173,7 +172,7 @@ fn count_of(sheet: &[u8], entries: Entries) -> u32
 // Entry j, behind one whose first field is `before`.
 fn judge(sheet: &[u8], entries: Entries, j: u32, before: u32) -> Judged
     requires { j < count_of entries sheet.now }
-    ensures { let s = entry sheet in (get_or (rising_of entries s) j 0 ≡ result.first)
+    ensures { let s = sheet.now in (get_or (rising_of entries s) j 0 ≡ result.first)
         × (Before (rising_of entries s) j before → result.fault ≡ fault_of entries s j) }
 {
     let i = j as usize;
@@ -199,7 +198,7 @@ fn judge(sheet: &[u8], entries: Entries, j: u32, before: u32) -> Judged
 // 8. "A boundary row breaks its rule on starts, or its concentration is outside its range (row)", 9. "A gauge breaks its rule (row)",
 // 16. "a flow row breaks its rule (row)".
 pub fn entries_test(sheet: &[u8], number: u32, entries: Entries) -> Finding
-    ensures { let s = entry sheet in finding_says result ≡ test_each number Document.row (count_of entries s) (fault_of entries s) }
+    ensures { let s = sheet.now in finding_says result ≡ test_each number Document.row (count_of entries s) (fault_of entries s) }
 {
     let count = count_of(sheet, entries);
     let mut before: u32 = 0;

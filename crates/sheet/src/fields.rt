@@ -8,7 +8,6 @@ ghost use Rattle.model.specs.Flow.{top_of, flow_in_force};
 ghost use Rattle.model.specs.Sheet.{field, header_field, dt, dx, steps_m, interval, top_flow, record_field, reach_on, segment_count};
 ghost use Rattle.model.specs.Sheet.{reach_count_at, row_count_at, gauge_count_at, reach_count, row_count, gauge_count};
 ghost use Rattle.terms.specs.Says.{reach_says};
-ghost use Rattle.lists.specs.Lent.{entry};
 ghost use Rattle.limits.specs.Says.{section_says};
 
 use crate::editions::{edition, reach_section};
@@ -18,7 +17,7 @@ use terms::Reach;
 
 // One byte, of a place past the end 0.
 fn byte(sheet: &[u8], at: usize) -> u8
-    ensures { result ≡ get_or (entry sheet) at 0 }
+    ensures { result ≡ get_or sheet.now at 0 }
 {
     if at < sheet.len() { sheet[at] } else { 0 }
 }
@@ -32,7 +31,7 @@ fn word(a: u8, b: u8, c: u8, d: u8) -> u32
 
 // "All fields are unsigned 32-bit, little-endian": the field whose first byte is byte number `at`.
 pub fn field(sheet: &[u8], at: usize) -> u32
-    ensures { result ≡ field (entry sheet) at }
+    ensures { result ≡ field sheet.now at }
 {
     if sheet.len() <= at {
         return 0;
@@ -50,7 +49,7 @@ pub fn field(sheet: &[u8], at: usize) -> u32
 
 // Field k of record i of a section whose count stands at count_at.
 pub fn record_field(sheet: &[u8], count_at: usize, section: Section, i: usize, k: usize) -> u32
-    ensures { result ≡ record_field (entry sheet) count_at (section_says section) i k }
+    ensures { result ≡ record_field sheet.now count_at (section_says section) i k }
 {
     let before = sum(product(section.width as usize, i), k);
     field(sheet, sum(sum(count_at, SIZE), product(SIZE, before)))
@@ -58,90 +57,90 @@ pub fn record_field(sheet: &[u8], count_at: usize, section: Section, i: usize, k
 
 // Field k of the header.
 pub fn header_field(sheet: &[u8], k: usize) -> u32
-    ensures { result ≡ header_field (entry sheet) k }
+    ensures { result ≡ header_field sheet.now k }
 {
     field(sheet, sum(SIZE, product(SIZE, k)))
 }
 
 pub fn dt(sheet: &[u8]) -> u32
-    ensures { result ≡ dt (entry sheet) }
+    ensures { result ≡ dt sheet.now }
 {
     header_field(sheet, 0)
 }
 
 pub fn dx(sheet: &[u8]) -> u32
-    ensures { result ≡ dx (entry sheet) }
+    ensures { result ≡ dx sheet.now }
 {
     header_field(sheet, 1)
 }
 
 // M.
 pub fn steps(sheet: &[u8]) -> u32
-    ensures { result ≡ steps_m (entry sheet) }
+    ensures { result ≡ steps_m sheet.now }
 {
     header_field(sheet, 2)
 }
 
 pub fn interval(sheet: &[u8]) -> u32
-    ensures { result ≡ interval (entry sheet) }
+    ensures { result ≡ interval sheet.now }
 {
     header_field(sheet, 3)
 }
 
 pub fn top_flow(sheet: &[u8]) -> u32
-    ensures { result ≡ top_flow (entry sheet) }
+    ensures { result ≡ top_flow sheet.now }
 {
     header_field(sheet, 4)
 }
 
 // Where the counts of rows, gauges and flow rows stand: all far below the highest usize.
 pub fn row_count_at(sheet: &[u8]) -> usize
-    ensures { (result ≡ row_count_at (entry sheet)) × (result < 2 ^ 40) }
+    ensures { (result ≡ row_count_at sheet.now) × (result < 2 ^ 40) }
 {
     section_end(sheet, REACH_COUNT_AT, reach_section(edition(sheet)))
 }
 
 pub fn gauge_count_at(sheet: &[u8]) -> usize
-    ensures { (result ≡ gauge_count_at (entry sheet)) × (result < 2 ^ 41) }
+    ensures { (result ≡ gauge_count_at sheet.now) × (result < 2 ^ 41) }
 {
     section_end(sheet, row_count_at(sheet), ROWS)
 }
 
 // Behind the last gauge, whether flow rows follow or not.
 fn flow_row_count_at(sheet: &[u8]) -> usize
-    ensures { (result ≡ flow_row_count_at (entry sheet)) × (result < 2 ^ 42) }
+    ensures { (result ≡ flow_row_count_at sheet.now) × (result < 2 ^ 42) }
 {
     section_end(sheet, gauge_count_at(sheet), GAUGES)
 }
 
 // Behind the last flow row, on a sheet that has them: the count of the first reach's bands.
 pub fn band_count_at(sheet: &[u8]) -> usize
-    ensures { (leb 3 (Document.edition (entry sheet)) ≡ true → result ≡ band_count_at (entry sheet) 0) × (result < 2 ^ 43) }
+    ensures { (leb 3 (Document.edition sheet.now) ≡ true → result ≡ band_count_at sheet.now 0) × (result < 2 ^ 43) }
 {
     section_end(sheet, flow_row_count_at(sheet), FLOW_ROWS)
 }
 
 pub fn reach_count(sheet: &[u8]) -> u32
-    ensures { result ≡ reach_count (entry sheet) }
+    ensures { result ≡ reach_count sheet.now }
 {
     field(sheet, REACH_COUNT_AT)
 }
 
 pub fn row_count(sheet: &[u8]) -> u32
-    ensures { result ≡ row_count (entry sheet) }
+    ensures { result ≡ row_count sheet.now }
 {
     field(sheet, row_count_at(sheet))
 }
 
 pub fn gauge_count(sheet: &[u8]) -> u32
-    ensures { result ≡ gauge_count (entry sheet) }
+    ensures { result ≡ gauge_count sheet.now }
 {
     field(sheet, gauge_count_at(sheet))
 }
 
 // 0 on a sheet without flow rows.
 pub fn flow_row_count(sheet: &[u8]) -> u32
-    ensures { result ≡ flow_row_count (entry sheet) }
+    ensures { result ≡ flow_row_count sheet.now }
 {
     if edition(sheet) < 2 {
         return 0;
@@ -151,20 +150,20 @@ pub fn flow_row_count(sheet: &[u8]) -> u32
 
 // Where the rows and the gauges begin: the first byte behind their count.
 pub fn rows_at(sheet: &[u8]) -> usize
-    ensures { result ≡ row_count_at (entry sheet) + 4 }
+    ensures { result ≡ row_count_at sheet.now + 4 }
 {
     row_count_at(sheet) + SIZE
 }
 
 pub fn gauges_at(sheet: &[u8]) -> usize
-    ensures { result ≡ gauge_count_at (entry sheet) + 4 }
+    ensures { result ≡ gauge_count_at sheet.now + 4 }
 {
     gauge_count_at(sheet) + SIZE
 }
 
 // 0 on a sheet without flow rows.
 pub fn flow_rows_at(sheet: &[u8]) -> usize
-    ensures { result ≡ (loaded (entry sheet)).flow_rows_at }
+    ensures { result ≡ (loaded sheet.now).flow_rows_at }
 {
     if edition(sheet) < 2 {
         return 0;
@@ -174,13 +173,13 @@ pub fn flow_rows_at(sheet: &[u8]) -> usize
 
 // Field k of reach i on a sheet of this edition; reaches, rows and gauges count from 0 here.
 pub fn reach_field(sheet: &[u8], edition: u32, i: usize, k: usize) -> u32
-    ensures { result ≡ record_field (entry sheet) reach_count_at (reach_section edition) i k }
+    ensures { result ≡ record_field sheet.now reach_count_at (reach_section edition) i k }
 {
     record_field(sheet, REACH_COUNT_AT, reach_section(edition), i, k)
 }
 
 pub fn reach(sheet: &[u8], i: usize) -> Reach
-    ensures { reach_says result ≡ reach_on (entry sheet) i }
+    ensures { reach_says result ≡ reach_on sheet.now i }
 {
     let edition = edition(sheet);
     Reach {
@@ -204,40 +203,40 @@ pub fn reach(sheet: &[u8], i: usize) -> Reach
 }
 
 pub fn row_start(sheet: &[u8], j: usize) -> u32
-    ensures { result ≡ record_field (entry sheet) (row_count_at (entry sheet)) row_section j 0 }
+    ensures { result ≡ record_field sheet.now (row_count_at sheet.now) row_section j 0 }
 {
     record_field(sheet, row_count_at(sheet), ROWS, j, 0)
 }
 
 pub fn row_concentration(sheet: &[u8], j: usize) -> u32
-    ensures { result ≡ record_field (entry sheet) (row_count_at (entry sheet)) row_section j 1 }
+    ensures { result ≡ record_field sheet.now (row_count_at sheet.now) row_section j 1 }
 {
     record_field(sheet, row_count_at(sheet), ROWS, j, 1)
 }
 
 // Gauge j, a segment's number.
 pub fn gauge(sheet: &[u8], j: usize) -> u32
-    ensures { result ≡ record_field (entry sheet) (gauge_count_at (entry sheet)) gauge_section j 0 }
+    ensures { result ≡ record_field sheet.now (gauge_count_at sheet.now) gauge_section j 0 }
 {
     record_field(sheet, gauge_count_at(sheet), GAUGES, j, 0)
 }
 
 // Flow row r, which counts from 0 here.
 pub fn flow_row_start(sheet: &[u8], r: usize) -> u32
-    ensures { result ≡ flow_row_start (entry sheet) r }
+    ensures { result ≡ flow_row_start sheet.now r }
 {
     record_field(sheet, flow_row_count_at(sheet), FLOW_ROWS, r, 0)
 }
 
 pub fn flow_row_top(sheet: &[u8], r: usize) -> u32
-    ensures { result ≡ flow_row_top (entry sheet) r }
+    ensures { result ≡ flow_row_top sheet.now r }
 {
     record_field(sheet, flow_row_count_at(sheet), FLOW_ROWS, r, 1)
 }
 
 // Flow r at the top, "a flow row's number (0 for the top flow ..)".
 pub fn top_of(sheet: &[u8], r: u32) -> u32
-    ensures { result ≡ top_of (entry sheet) r }
+    ensures { result ≡ top_of sheet.now r }
 {
     if r == 0 {
         return top_flow(sheet);
@@ -248,7 +247,7 @@ pub fn top_of(sheet: &[u8], r: u32) -> u32
 // The number of the flow in force at step j: the last row that starts at or before it, 0 where none does. Of a sheet that no loading accepts
 // it is that of the rows that its count names, and bytes past the end count as 0.
 pub fn flow_in_force(sheet: &[u8], j: u32) -> u32
-    ensures { result ≡ flow_in_force (entry sheet) j }
+    ensures { result ≡ flow_in_force sheet.now j }
 {
     let mut r = flow_row_count(sheet);
     while r > 0 {
@@ -262,7 +261,7 @@ pub fn flow_in_force(sheet: &[u8], j: u32) -> u32
 
 // The segments of all reaches together. A reach past the sheet's end has none, so the loop may stop there.
 pub fn segment_count(sheet: &[u8]) -> usize
-    ensures { result ≡ segment_count (entry sheet) }
+    ensures { result ≡ segment_count sheet.now }
 {
     let edition = edition(sheet);
     let count = reach_count(sheet) as usize;

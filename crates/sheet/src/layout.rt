@@ -1,7 +1,6 @@
 // Where things stand on a sheet. No slice reaches the highest usize, so a position that is not below it counts as that one: either is past the end.
 ghost use Rattle.std.specs.Prelude.{◌≡◌, ◌+◌, ◌*◌, ◌-◌, ◌^◌, ◌<◌, min};
 ghost use Rattle.model.specs.Sheet.{section_end};
-ghost use Rattle.lists.specs.Lent.{entry};
 ghost use Rattle.limits.specs.Says.{section_says};
 
 use crate::fields::field;
@@ -43,7 +42,7 @@ pub fn product(a: usize, b: usize) -> usize
 // Where a section ends whose count stands at `at`.
 pub fn section_end(sheet: &[u8], at: usize, section: Section) -> usize
     requires { (at < 2 ^ 63 + 2 ^ 32) × (section.width < 32) }
-    ensures { (result ≡ section_end (entry sheet) at (section_says section)) × (result < at + 2 ^ 39) }
+    ensures { (result ≡ section_end sheet.now at (section_says section)) × (result < at + 2 ^ 39) }
 {
     at + SIZE + SIZE * ((section.width as usize) * (field(sheet, at) as usize))
 }

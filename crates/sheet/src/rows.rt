@@ -2,7 +2,6 @@
 ghost use Rattle.std.specs.Prelude.{◌≡◌};
 ghost use Rattle.model.specs.Sheet.{row_starts, row_concentrations};
 ghost use Rattle.terms.specs.Says.{finding_says};
-ghost use Rattle.lists.specs.Lent.{entry, exit};
 ghost use Rattle.sheet.specs.Rows.{row_list_test, row_list_after};
 
 use crate::fields::{row_concentration, row_count, row_start};
@@ -10,10 +9,10 @@ use terms::{Finding, Place};
 
 // Fills the two lists' first entries from the sheet, one for each row.
 pub fn copy_rows(sheet: &[u8], starts: &mut [u32], concentrations: &mut [u32]) -> Finding
-    ensures found { finding_says result ≡ row_list_test (entry sheet) (entry starts) (entry concentrations) }
-    ensures starts { exit starts ≡ row_list_after (finding_says result) (row_starts (entry sheet)) (entry starts) }
-    ensures concentrations { let s = entry sheet in
-        exit concentrations ≡ row_list_after (finding_says result) (row_concentrations s) (entry concentrations) }
+    ensures found { finding_says result ≡ row_list_test sheet.now starts.old concentrations.old }
+    ensures starts { starts.new ≡ row_list_after (finding_says result) (row_starts sheet.now) starts.old }
+    ensures concentrations { let s = sheet.now in
+        concentrations.new ≡ row_list_after (finding_says result) (row_concentrations s) concentrations.old }
 {
     let count = row_count(sheet) as usize;
     if starts.len() < count {

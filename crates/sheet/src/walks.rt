@@ -3,7 +3,6 @@ ghost use Rattle.std.specs.Prelude.{◌≡◌};
 ghost use Rattle.model.specs.Sheet.{sections, reach_count_at, sheet_end};
 ghost use Rattle.model.specs.Load.{walk};
 ghost use Rattle.terms.specs.Says.{finding_says};
-ghost use Rattle.lists.specs.Lent.{entry};
 ghost use Rattle.sheet.specs.Walks.{Walked};
 
 use crate::editions::{edition, section_count, section_of};
@@ -14,7 +13,7 @@ use terms::{Finding, Place};
 
 // 2 and 3, "the one met first decides".
 pub fn walk(sheet: &[u8]) -> Finding
-    ensures { finding_says result ≡ walk (entry sheet) reach_count_at (sections (entry sheet)) }
+    ensures { finding_says result ≡ walk sheet.now reach_count_at (sections sheet.now) }
 {
     let edition = edition(sheet);
     let count = section_count(edition, reach_count(sheet));
@@ -40,7 +39,7 @@ pub fn walk(sheet: &[u8]) -> Finding
 
 // The end of "whichever section is last", by the counts that the walk has passed; on a sheet that it refuses, as far as counts can be read.
 pub fn sheet_end(sheet: &[u8]) -> usize
-    ensures { Walked (entry sheet) → result ≡ sheet_end (entry sheet) }
+    ensures { Walked sheet.now → result ≡ sheet_end sheet.now }
 {
     let edition = edition(sheet);
     let count = section_count(edition, reach_count(sheet));

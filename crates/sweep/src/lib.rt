@@ -2,7 +2,7 @@
 ghost use Rattle.std.specs.Prelude.{◌≡◌, cond, ◌<◌, ◌≤◌, ltb, length, get_or};
 ghost use Rattle.model.specs.Sweep.{downward, finish, up};
 ghost use Rattle.model.specs.State.{pair_at, pairs_of, figures_of};
-ghost use Rattle.lists.specs.Lent.{entry, exit};
+ghost use Rattle.lists.specs.Lent.{plain};
 ghost use Rattle.terms.specs.Lent.{set_of, columns_of, state, working};
 ghost use Rattle.segment.specs.Says.{pair_says};
 ghost use Rattle.sweep.specs.Step.{passed_of, LongPairs, Ready, UpReady, FiguresOver, PassedOver, Stepped};
@@ -13,7 +13,7 @@ use terms::{CB, CL, Fixed, Numbers, Set};
 // The channel figure at i, 0 below the last segment.
 fn channel_or_0(channel: &[u32], i: usize, n: usize) -> u32
     requires { n ≤ length channel.now }
-    ensures { result ≡ cond (ltb i n) (get_or (entry channel) i 0) 0 }
+    ensures { result ≡ cond (ltb i n) (get_or channel.now i 0) 0 }
 {
     if i < n { channel[i] } else { 0 }
 }
@@ -45,10 +45,10 @@ fn downward(
     p: &mut [u64],
     y: &mut [u64],
 )
-    requires { Ready n (set_of old) (columns_of new fixed) (state (λ x. x.now) channel storage sediment u 0) (working (λ x. x.now) p y) next }
+    requires { Ready n (set_of old) (columns_of new fixed) (state plain channel.now storage.now sediment.now u 0) (working plain p.old y.old) next }
     ensures { PassedOver (downward u next (pairs_of n (set_of old.entry)
-        (columns_of new.entry fixed.entry)) (figures_of n (state entry channel storage sediment u 0)))
-        (working entry p y) (exit p) (exit y) }
+        (columns_of new.entry fixed.entry)) (figures_of n (state plain channel.now storage.now sediment.now u 0)))
+        (working plain p.old y.old) p.new y.new }
 {
     let mut above = u;
     let mut d = Passed {
@@ -89,10 +89,10 @@ fn upward(
     sediment: &mut [u32],
 )
     requires { UpReady n (set_of old) (columns_of new fixed)
-        (state (λ x. x.now) channel storage sediment 0 0) (working (λ x. x.now) p y) }
+        (state plain channel.old storage.old sediment.old 0 0) (working plain p.now y.now) }
     ensures { FiguresOver (finish (pairs_of n (set_of old.entry)
-        (columns_of new.entry fixed.entry)) (figures_of n (state entry channel storage sediment 0 0))
-        (up (passed_of n (working entry p y)))) (state entry channel storage sediment 0 0) (exit channel) (exit storage) (exit sediment) }
+        (columns_of new.entry fixed.entry)) (figures_of n (state plain channel.old storage.old sediment.old 0 0))
+        (up (passed_of n (working plain p.now y.now)))) (state plain channel.old storage.old sediment.old 0 0) channel.new storage.new sediment.new }
 {
     let mut below: u64 = 0;
     let mut i = n;
@@ -132,10 +132,10 @@ pub fn step(
     p: &mut [u64],
     y: &mut [u64],
 )
-    requires { Ready n (set_of old) (columns_of new fixed) (state (λ x. x.now) channel storage sediment u 0) (working (λ x. x.now) p y) next }
+    requires { Ready n (set_of old) (columns_of new fixed) (state plain channel.old storage.old sediment.old u 0) (working plain p.old y.old) next }
     ensures { Stepped n (set_of old.entry)
-        (columns_of new.entry fixed.entry) (state entry channel storage sediment u 0) (working entry p y) next
-        (exit channel) (exit storage) (exit sediment) (exit p) (exit y) }
+        (columns_of new.entry fixed.entry) (state plain channel.old storage.old sediment.old u 0) (working plain p.old y.old) next
+        channel.new storage.new sediment.new p.new y.new }
 {
     downward(
         n, u, next, old, new, fixed, channel, storage, sediment, p, y,

@@ -9,7 +9,7 @@ ghost use Rattle.model.specs.Ranges.{gauge_section, band_section, most_segments,
 ghost use Rattle.model.specs.Flow.{flow_in_force};
 ghost use Rattle.model.specs.Load.{load_answer, load_columns, load_records};
 ghost use Rattle.model.specs.Pool.{pool_result, PoolSearchAnswer, close_finding, closed_table, open_answer, open_columns, open_records, pool_open, open_highest};
-ghost use Rattle.model.specs.Calls.{no_working, Call, result};
+ghost use Rattle.model.specs.Calls.{no_working, Call, call_result};
 ghost use Rattle.model.specs.Search.{SearchAnswer};
 ghost use Rattle.model.specs.Upstream.{upstream_answer};
 ghost use Rattle.model.specs.Highest.{block_count};
@@ -21,7 +21,7 @@ ghost use Rattle.model.specs.OwnRiverClaim.{OwnRiverSteps, OwnRiverOnwards, OwnR
 ghost use Rattle.forecast_model.specs.Forecast.{forecast, pool_forecast};
 ghost use Rattle.forecast_model.specs.ForecastClaim.{ForecastSays, ForecastNear, PoolForecastSays};
 ghost use Rattle.terms.specs.Says.{reach_says};
-ghost use Rattle.lists.specs.Lent.{entry, exit};
+ghost use Rattle.lists.specs.Lent.{plain};
 ghost use Rattle.terms.specs.Lent.{set, columns, state, working, left, table_in, pool};
 ghost use Rattle.sheet.specs.Rows.{row_list_test, row_list_after};
 ghost use Rattle.otis.specs.Outcomes.{handed};
@@ -63,14 +63,14 @@ pub extern "C" fn yumbaqel_load(
     kd: &mut [u32],
     start: &mut [u32],
 )
-    ensures* answer { λ _. ⌜ Told (found_by (load_answer (entry sheet) row (length (entry reaches))
-        (columns entry e g l a b k ks h m s cl cb kd start))) (exit number) (exit kind) (exit place) ⌝ }
-    ensures* values { λ _. ⌜ exit loaded ≡ handed (load_answer (entry sheet) row (length (entry reaches))
-        (columns entry e g l a b k ks h m s cl cb kd start)) loaded_values (entry loaded) ⌝ }
-    ensures* lists { λ _. ⌜ columns exit e g l a b k ks h m s cl cb kd start ≡ load_columns (entry sheet) row (length (entry reaches))
-        (columns entry e g l a b k ks h m s cl cb kd start) ⌝ }
-    ensures* records { λ _. ⌜ map reach_says (exit reaches) ≡ load_records (entry sheet) row (map reach_says (entry reaches))
-        (columns entry e g l a b k ks h m s cl cb kd start) ⌝ }
+    ensures answer { Told (found_by (load_answer sheet.now row (length reaches.old)
+        (columns plain e.old g.old l.old a.old b.old k.old ks.old h.old m.old s.old cl.old cb.old kd.old start.old))) number.new kind.new place.new }
+    ensures values { loaded.new ≡ handed (load_answer sheet.now row (length reaches.old)
+        (columns plain e.old g.old l.old a.old b.old k.old ks.old h.old m.old s.old cl.old cb.old kd.old start.old)) loaded_values loaded.old }
+    ensures lists { columns plain e.new g.new l.new a.new b.new k.new ks.new h.new m.new s.new cl.new cb.new kd.new start.new ≡ load_columns sheet.now row (length reaches.old)
+        (columns plain e.old g.old l.old a.old b.old k.old ks.old h.old m.old s.old cl.old cb.old kd.old start.old) }
+    ensures records { map reach_says reaches.new ≡ load_records sheet.now row (map reach_says reaches.old)
+        (columns plain e.old g.old l.old a.old b.old k.old ks.old h.old m.old s.old cl.old cb.old kd.old start.old) }
 {
     let answer = loading::load(
         sheet, row, reaches, e, g, l, a, b, k, ks, h, m, s, cl, cb, kd, start,
@@ -110,18 +110,18 @@ pub extern "C" fn yumbaqel_pool_open(
     table: &mut Table,
     u: u32,
 )
-    ensures* answer { λ _. ⌜ Told (found_by (open_answer (entry sheet) row (length (entry reaches))
-        (columns entry e g l a b k ks h m s cl cb kd start) (pool entry channel storage sediment table) river (entry highest) u)) (exit number) (exit kind) (exit place) ⌝ }
-    ensures* values { λ _. ⌜ exit loaded ≡ handed (open_answer (entry sheet) row (length (entry reaches))
-        (columns entry e g l a b k ks h m s cl cb kd start) (pool entry channel storage sediment table) river (entry highest) u) loaded_values (entry loaded) ⌝ }
-    ensures* lists { λ _. ⌜ columns exit e g l a b k ks h m s cl cb kd start ≡ open_columns (entry sheet) row (length (entry reaches))
-        (columns entry e g l a b k ks h m s cl cb kd start) (pool entry channel storage sediment table) river (entry highest) u ⌝ }
-    ensures* pool { λ _. ⌜ pool exit channel storage sediment table ≡ pool_open (entry sheet) row (length (entry reaches))
-        (columns entry e g l a b k ks h m s cl cb kd start) (pool entry channel storage sediment table) river (entry highest) u ⌝ }
-    ensures* highest { λ _. ⌜ exit highest ≡ open_highest (entry sheet) row (length (entry reaches))
-        (columns entry e g l a b k ks h m s cl cb kd start) (pool entry channel storage sediment table) river (entry highest) u ⌝ }
-    ensures* records { λ _. ⌜ map reach_says (exit reaches) ≡ open_records (entry sheet) row (map reach_says (entry reaches))
-        (columns entry e g l a b k ks h m s cl cb kd start) (pool entry channel storage sediment table) river (entry highest) u ⌝ }
+    ensures answer { Told (found_by (open_answer sheet.now row (length reaches.old)
+        (columns plain e.old g.old l.old a.old b.old k.old ks.old h.old m.old s.old cl.old cb.old kd.old start.old) (pool plain channel.old storage.old sediment.old table.old) river highest.old u)) number.new kind.new place.new }
+    ensures values { loaded.new ≡ handed (open_answer sheet.now row (length reaches.old)
+        (columns plain e.old g.old l.old a.old b.old k.old ks.old h.old m.old s.old cl.old cb.old kd.old start.old) (pool plain channel.old storage.old sediment.old table.old) river highest.old u) loaded_values loaded.old }
+    ensures lists { columns plain e.new g.new l.new a.new b.new k.new ks.new h.new m.new s.new cl.new cb.new kd.new start.new ≡ open_columns sheet.now row (length reaches.old)
+        (columns plain e.old g.old l.old a.old b.old k.old ks.old h.old m.old s.old cl.old cb.old kd.old start.old) (pool plain channel.old storage.old sediment.old table.old) river highest.old u }
+    ensures pool { pool plain channel.new storage.new sediment.new table.new ≡ pool_open sheet.now row (length reaches.old)
+        (columns plain e.old g.old l.old a.old b.old k.old ks.old h.old m.old s.old cl.old cb.old kd.old start.old) (pool plain channel.old storage.old sediment.old table.old) river highest.old u }
+    ensures highest { highest.new ≡ open_highest sheet.now row (length reaches.old)
+        (columns plain e.old g.old l.old a.old b.old k.old ks.old h.old m.old s.old cl.old cb.old kd.old start.old) (pool plain channel.old storage.old sediment.old table.old) river highest.old u }
+    ensures records { map reach_says reaches.new ≡ open_records sheet.now row (map reach_says reaches.old)
+        (columns plain e.old g.old l.old a.old b.old k.old ks.old h.old m.old s.old cl.old cb.old kd.old start.old) (pool plain channel.old storage.old sediment.old table.old) river highest.old u }
 {
     let answer = opening::open(
         river, sheet, row, reaches, e, g, l, a, b, k, ks, h, m, s, cl, cb, kd, start, channel,
@@ -160,9 +160,9 @@ pub extern "C" fn yumbaqel_start<'a>(
     done: &mut u32,
     u: u32,
 )
-    ensures* { λ _. ⌜ Handed (result n (state entry channel storage sediment (entry upstream) (entry done))
-        (Call.start (columns entry e g l a b k ks h m s cl cb kd start) (entry highest) u))
-        (exit number) (exit kind) (exit place) (left (state exit channel storage sediment (exit upstream) (exit done)) (exit highest) no_working) ⌝ }
+    ensures { Handed (call_result n (state plain channel.old storage.old sediment.old upstream.old done.old)
+        (Call.start (columns plain e.now g.now l.now a.now b.now k.now ks.now h.now m.now s.now cl.now cb.now kd.now start.now) highest.old u))
+        number.new kind.new place.new (left (state plain channel.new storage.new sediment.new upstream.new done.new) highest.new no_working) }
 {
     let answer = River::start(
         n,
@@ -220,9 +220,9 @@ pub extern "C" fn yumbaqel_step<'a>(
     u: u32,
     steps: u32,
 )
-    ensures* { λ _. ⌜ Handed (result n (state entry channel storage sediment (entry upstream) (entry done))
-        (Call.step (set entry e0 g0 l0 a0 b0 k0 ks0 h0 m0 s0) (columns entry e g l a b k ks h m s cl cb kd start) (entry highest) (working entry p y) u steps))
-        (exit number) (exit kind) (exit place) (left (state exit channel storage sediment (exit upstream) (exit done)) (exit highest) (working exit p y)) ⌝ }
+    ensures { Handed (call_result n (state plain channel.old storage.old sediment.old upstream.old done.old)
+        (Call.step (set plain e0.now g0.now l0.now a0.now b0.now k0.now ks0.now h0.now m0.now s0.now) (columns plain e.now g.now l.now a.now b.now k.now ks.now h.now m.now s.now cl.now cb.now kd.now start.now) highest.old (working plain p.old y.old) u steps))
+        number.new kind.new place.new (left (state plain channel.new storage.new sediment.new upstream.new done.new) highest.new (working plain p.new y.new)) }
 {
     let river = River {
         upstream: *upstream,
@@ -276,8 +276,8 @@ pub extern "C" fn yumbaqel_report<'a>(
     done: u32,
     segment: u32,
 )
-    ensures* { λ _. ⌜ ReportHanded (result n (state entry channel storage sediment upstream done) (Call.report (columns entry e g l a b k ks h m s cl cb kd start) segment)).answer
-        (exit number) (exit kind) (exit place) (entry c) (entry z) (entry kdw) (exit c) (exit z) (exit kdw) ⌝ }
+    ensures { ReportHanded (call_result n (state plain channel.now storage.now sediment.now upstream done) (Call.report (columns plain e.now g.now l.now a.now b.now k.now ks.now h.now m.now s.now cl.now cb.now kd.now start.now) segment)).answer
+        number.new kind.new place.new c.old z.old kdw.old c.new z.new kdw.new }
 {
     let river = River {
         upstream: upstream,
@@ -307,7 +307,7 @@ pub extern "C" fn yumbaqel_search(
     highest: &[u32],
     limit: u32,
 )
-    ensures* { λ _. ⌜ SearchHanded (SearchAnswer n (entry channel) (entry highest) limit) (exit number) (exit kind) (exit place) (entry segment) (exit segment) ⌝ }
+    ensures { SearchHanded (SearchAnswer n channel.now highest.now limit) number.new kind.new place.new segment.old segment.new }
 {
     let answer = search::alone(n, channel, highest, limit);
     put_search(answer, number, kind, place, segment);
@@ -342,12 +342,12 @@ pub extern "C" fn yumbaqel_forecast(
     limit: u32,
     horizon: u32,
 )
-    ensures* result { λ _. ⌜ ForecastHanded (forecast (entry sheet) (live_river n (state entry channel storage sediment upstream done) (entry highest))
-        (room (state entry channel1 storage1 sediment1 (entry upstream1) (entry done1)) (entry highest1) (entry sides) (working entry p y)) (question gauge limit horizon))
-        (exit number) (exit kind) (exit place) (entry above) (exit above) (left (state exit channel1 storage1 sediment1 (exit upstream1) (exit done1)) (exit highest1) (working exit p y)) ⌝ }
-    ensures* sides { λ _. ⌜ SidesLeft (forecast (entry sheet) (live_river n (state entry channel storage sediment upstream done) (entry highest))
-        (room (state entry channel1 storage1 sediment1 (entry upstream1) (entry done1)) (entry highest1) (entry sides) (working entry p y)) (question gauge limit horizon)).answer
-        (entry sheet) (entry sides) (exit sides) ⌝ }
+    ensures result { ForecastHanded (forecast sheet.now (live_river n (state plain channel.now storage.now sediment.now upstream done) highest.now)
+        (room (state plain channel1.old storage1.old sediment1.old upstream1.old done1.old) highest1.old sides.old (working plain p.old y.old)) (question gauge limit horizon))
+        number.new kind.new place.new above.old above.new (left (state plain channel1.new storage1.new sediment1.new upstream1.new done1.new) highest1.new (working plain p.new y.new)) }
+    ensures sides { SidesLeft (forecast sheet.now (live_river n (state plain channel.now storage.now sediment.now upstream done) highest.now)
+        (room (state plain channel1.old storage1.old sediment1.old upstream1.old done1.old) highest1.old sides.old (working plain p.old y.old)) (question gauge limit horizon)).answer
+        sheet.now sides.old sides.new }
 {
     let river = River {
         upstream: upstream,
@@ -388,8 +388,8 @@ pub extern "C" fn yumbaqel_pool_start<'a>(
     table: &mut Table,
     u: u32,
 )
-    ensures* { λ _. ⌜ Handed (pool_result (pool entry channel storage sediment table) river (Call.start (columns entry e g l a b k ks h m s cl cb kd start) (entry highest) u))
-        (exit number) (exit kind) (exit place) (left (pool exit channel storage sediment table) (exit highest) no_working) ⌝ }
+    ensures { Handed (pool_result (pool plain channel.old storage.old sediment.old table.old) river (Call.start (columns plain e.now g.now l.now a.now b.now k.now ks.now h.now m.now s.now cl.now cb.now kd.now start.now) highest.old u))
+        number.new kind.new place.new (left (pool plain channel.new storage.new sediment.new table.new) highest.new no_working) }
 {
     let answer = pool::start(
         river,
@@ -446,9 +446,9 @@ pub extern "C" fn yumbaqel_pool_step<'a>(
     u: u32,
     steps: u32,
 )
-    ensures* { λ _. ⌜ Handed (pool_result (pool entry channel storage sediment table) river
-        (Call.step (set entry e0 g0 l0 a0 b0 k0 ks0 h0 m0 s0) (columns entry e g l a b k ks h m s cl cb kd start) (entry highest) (working entry p y) u steps))
-        (exit number) (exit kind) (exit place) (left (pool exit channel storage sediment table) (exit highest) (working exit p y)) ⌝ }
+    ensures { Handed (pool_result (pool plain channel.old storage.old sediment.old table.old) river
+        (Call.step (set plain e0.now g0.now l0.now a0.now b0.now k0.now ks0.now h0.now m0.now s0.now) (columns plain e.now g.now l.now a.now b.now k.now ks.now h.now m.now s.now cl.now cb.now kd.now start.now) highest.old (working plain p.old y.old) u steps))
+        number.new kind.new place.new (left (pool plain channel.new storage.new sediment.new table.new) highest.new (working plain p.new y.new)) }
 {
     let answer = pool::step(
         river,
@@ -498,8 +498,8 @@ pub extern "C" fn yumbaqel_pool_report<'a>(
     table: &Table,
     segment: u32,
 )
-    ensures* { λ _. ⌜ ReportHanded (pool_result (pool entry channel storage sediment table) river (Call.report (columns entry e g l a b k ks h m s cl cb kd start) segment)).answer
-        (exit number) (exit kind) (exit place) (entry c) (entry z) (entry kdw) (exit c) (exit z) (exit kdw) ⌝ }
+    ensures { ReportHanded (pool_result (pool plain channel.now storage.now sediment.now table.now) river (Call.report (columns plain e.now g.now l.now a.now b.now k.now ks.now h.now m.now s.now cl.now cb.now kd.now start.now) segment)).answer
+        number.new kind.new place.new c.old z.old kdw.old c.new z.new kdw.new }
 {
     let answer = pool::report(
         river,
@@ -527,8 +527,8 @@ pub extern "C" fn yumbaqel_pool_search(
     table: &Table,
     limit: u32,
 )
-    ensures* { λ _. ⌜ SearchHanded (PoolSearchAnswer (table_in (entry table)) (entry channel) river (entry highest) limit) (exit number) (exit kind) (exit place)
-        (entry segment) (exit segment) ⌝ }
+    ensures { SearchHanded (PoolSearchAnswer (table_in table.now) channel.now river highest.now limit) number.new kind.new place.new
+        segment.old segment.new }
 {
     let answer = search::on_pool(river, channel, highest, table, limit);
     put_search(answer, number, kind, place, segment);
@@ -561,12 +561,12 @@ pub extern "C" fn yumbaqel_pool_forecast(
     limit: u32,
     horizon: u32,
 )
-    ensures* result { λ _. ⌜ ForecastHanded (pool_forecast (entry sheet) (pool entry channel storage sediment table) river (entry highest)
-        (room (state entry channel1 storage1 sediment1 (entry upstream1) (entry done1)) (entry highest1) (entry sides) (working entry p y)) (question gauge limit horizon))
-        (exit number) (exit kind) (exit place) (entry above) (exit above) (left (state exit channel1 storage1 sediment1 (exit upstream1) (exit done1)) (exit highest1) (working exit p y)) ⌝ }
-    ensures* sides { λ _. ⌜ SidesLeft (pool_forecast (entry sheet) (pool entry channel storage sediment table) river (entry highest)
-        (room (state entry channel1 storage1 sediment1 (entry upstream1) (entry done1)) (entry highest1) (entry sides) (working entry p y)) (question gauge limit horizon)).answer
-        (entry sheet) (entry sides) (exit sides) ⌝ }
+    ensures result { ForecastHanded (pool_forecast sheet.now (pool plain channel.now storage.now sediment.now table.now) river highest.now
+        (room (state plain channel1.old storage1.old sediment1.old upstream1.old done1.old) highest1.old sides.old (working plain p.old y.old)) (question gauge limit horizon))
+        number.new kind.new place.new above.old above.new (left (state plain channel1.new storage1.new sediment1.new upstream1.new done1.new) highest1.new (working plain p.new y.new)) }
+    ensures sides { SidesLeft (pool_forecast sheet.now (pool plain channel.now storage.now sediment.now table.now) river highest.now
+        (room (state plain channel1.old storage1.old sediment1.old upstream1.old done1.old) highest1.old sides.old (working plain p.old y.old)) (question gauge limit horizon)).answer
+        sheet.now sides.old sides.new }
 {
     let answer = forecast::on_pool(
         river, sheet, channel, storage, sediment, highest, table, channel1, storage1, sediment1,
@@ -584,8 +584,8 @@ pub extern "C" fn yumbaqel_pool_close(
     river: u32,
     table: &mut Table,
 )
-    ensures* answer { λ _. ⌜ Told (close_finding (table_in (entry table)) river) (exit number) (exit kind) (exit place) ⌝ }
-    ensures* table { λ _. ⌜ table_in (exit table) ≡ closed_table (table_in (entry table)) river ⌝ }
+    ensures answer { Told (close_finding (table_in table.old) river) number.new kind.new place.new }
+    ensures table { table_in table.new ≡ closed_table (table_in table.old) river }
 {
     let found = pool::close(river, table);
     put_finding(found, number, kind, place);
@@ -603,8 +603,8 @@ pub extern "C" fn yumbaqel_upstream(
     steps: u32,
     j: u32,
 )
-    ensures* answer { λ _. ⌜ Told (found_by (upstream_answer steps j (entry starts) (entry concentrations))) (exit number) (exit kind) (exit place) ⌝ }
-    ensures* u { λ _. ⌜ exit u ≡ handed (upstream_answer steps j (entry starts) (entry concentrations)) (λ v. v) (entry u) ⌝ }
+    ensures answer { Told (found_by (upstream_answer steps j starts.now concentrations.now)) number.new kind.new place.new }
+    ensures u { u.new ≡ handed (upstream_answer steps j starts.now concentrations.now) (λ v. v) u.old }
 {
     let answer = boundary::rows::upstream(starts, concentrations, steps, j);
     put_upstream(answer, number, kind, place, u);
@@ -620,11 +620,11 @@ pub extern "C" fn yumbaqel_rows(
     starts: &mut [u32],
     concentrations: &mut [u32],
 )
-    ensures* answer { λ _. ⌜ Told (row_list_test (entry sheet) (entry starts) (entry concentrations)) (exit number) (exit kind) (exit place) ⌝ }
-    ensures* starts { λ _. ⌜ exit starts ≡ row_list_after (row_list_test (entry sheet) (entry starts) (entry concentrations))
-        (row_starts (entry sheet)) (entry starts) ⌝ }
-    ensures* concentrations { λ _. ⌜ exit concentrations ≡ row_list_after (row_list_test (entry sheet) (entry starts) (entry concentrations))
-        (row_concentrations (entry sheet)) (entry concentrations) ⌝ }
+    ensures answer { Told (row_list_test sheet.now starts.old concentrations.old) number.new kind.new place.new }
+    ensures starts { starts.new ≡ row_list_after (row_list_test sheet.now starts.old concentrations.old)
+        (row_starts sheet.now) starts.old }
+    ensures concentrations { concentrations.new ≡ row_list_after (row_list_test sheet.now starts.old concentrations.old)
+        (row_concentrations sheet.now) concentrations.old }
 {
     let found = sheet::rows::copy_rows(sheet, starts, concentrations);
     put_finding(found, number, kind, place);
@@ -633,7 +633,7 @@ pub extern "C" fn yumbaqel_rows(
 // Gauge j of a sheet, a segment's number; j counts from 0. Bytes past the sheet's end count as 0.
 #[unsafe(no_mangle)]
 pub extern "C" fn yumbaqel_gauge(sheet: &[u8], j: usize) -> u32
-    ensures* { λ r. ⌜ r ≡ record_field (entry sheet) (gauge_count_at (entry sheet)) gauge_section j 0 ⌝ }
+    ensures { result ≡ record_field sheet.now (gauge_count_at sheet.now) gauge_section j 0 }
 {
     sheet::fields::gauge(sheet, j)
 }
@@ -642,7 +642,7 @@ pub extern "C" fn yumbaqel_gauge(sheet: &[u8], j: usize) -> u32
 // the rows that its count names; bytes past the sheet's end count as 0.
 #[unsafe(no_mangle)]
 pub extern "C" fn yumbaqel_flow(sheet: &[u8], j: u32) -> u32
-    ensures* { λ r. ⌜ r ≡ flow_in_force (entry sheet) j ⌝ }
+    ensures { result ≡ flow_in_force sheet.now j }
 {
     sheet::fields::flow_in_force(sheet, j)
 }
@@ -650,7 +650,7 @@ pub extern "C" fn yumbaqel_flow(sheet: &[u8], j: u32) -> u32
 // dt of a sheet, in seconds. Bytes past the sheet's end count as 0.
 #[unsafe(no_mangle)]
 pub extern "C" fn yumbaqel_dt(sheet: &[u8]) -> u32
-    ensures* { λ r. ⌜ r ≡ dt (entry sheet) ⌝ }
+    ensures { result ≡ dt sheet.now }
 {
     sheet::fields::dt(sheet)
 }
@@ -658,7 +658,7 @@ pub extern "C" fn yumbaqel_dt(sheet: &[u8]) -> u32
 // dx of a sheet, in cm. Bytes past the sheet's end count as 0.
 #[unsafe(no_mangle)]
 pub extern "C" fn yumbaqel_dx(sheet: &[u8]) -> u32
-    ensures* { λ r. ⌜ r ≡ dx (entry sheet) ⌝ }
+    ensures { result ≡ dx sheet.now }
 {
     sheet::fields::dx(sheet)
 }
@@ -667,9 +667,9 @@ pub extern "C" fn yumbaqel_dx(sheet: &[u8]) -> u32
 // Kd, in pg/g, for sediment. With it goes the claim that none is further off.
 #[unsafe(no_mangle)]
 pub extern "C" fn yumbaqel_most_off(steps: u32) -> u64
-    ensures* r_value { λ r. ⌜ r ≡ 6 * steps ⌝ }
-    ensures* fact { λ r. ⌜ Demand3 ⌝ }
-    ensures* fact_2 { λ r. ⌜ LoadedLists ⌝ }
+    ensures r_value { result ≡ 6 * steps }
+    ensures fact { Demand3 }
+    ensures fact_2 { LoadedLists }
 {
     distance_claim::most_off(steps)
 }
@@ -677,9 +677,9 @@ pub extern "C" fn yumbaqel_most_off(steps: u32) -> u64
 // The most rivers that a pool has open, with the claim that each shows the figures of its own calls, and that an opening leaves what they are to be lent.
 #[unsafe(no_mangle)]
 pub extern "C" fn yumbaqel_most_rivers() -> u32
-    ensures* r_value { λ r. ⌜ r ≡ 8 ⌝ }
-    ensures* fact { λ r. ⌜ Sharing ⌝ }
-    ensures* fact_2 { λ r. ⌜ OpenedLists ⌝ }
+    ensures r_value { result ≡ 8 }
+    ensures fact { Sharing }
+    ensures fact_2 { OpenedLists }
 {
     pool_claim::most_rivers()
 }
@@ -688,9 +688,9 @@ pub extern "C" fn yumbaqel_most_rivers() -> u32
 // segment is above, of a river alone and on a pool.
 #[unsafe(no_mangle)]
 pub extern "C" fn yumbaqel_most_blocks() -> u32
-    ensures* r_value { λ r. ⌜ r ≡ block_count most_segments ⌝ }
-    ensures* fact { λ r. ⌜ SearchTold ⌝ }
-    ensures* fact_2 { λ r. ⌜ PoolSearchTold ⌝ }
+    ensures r_value { result ≡ block_count most_segments }
+    ensures fact { SearchTold }
+    ensures fact_2 { PoolSearchTold }
 {
     search_claim::most_blocks()
 }
@@ -699,9 +699,9 @@ pub extern "C" fn yumbaqel_most_blocks() -> u32
 // number.
 #[unsafe(no_mangle)]
 pub extern "C" fn yumbaqel_most_bands() -> u32
-    ensures* r_value { λ r. ⌜ r ≡ band_section.counts.high ⌝ }
-    ensures* fact { λ r. ⌜ BandsCover ⌝ }
-    ensures* fact_2 { λ r. ⌜ OrderFree ⌝ }
+    ensures r_value { result ≡ band_section.counts.high }
+    ensures fact { BandsCover }
+    ensures fact_2 { OrderFree }
 {
     bands_claim::most_bands()
 }
@@ -710,12 +710,12 @@ pub extern "C" fn yumbaqel_most_bands() -> u32
 // steps leave what the definitions say, and that demand 3 holds of them.
 #[unsafe(no_mangle)]
 pub extern "C" fn yumbaqel_most_steps() -> u32
-    ensures* r_value { λ r. ⌜ r ≡ most_steps ⌝ }
-    ensures* fact { λ r. ⌜ OwnRiverSteps ⌝ }
-    ensures* fact_2 { λ r. ⌜ OwnRiverOnwards ⌝ }
-    ensures* fact_3 { λ r. ⌜ OwnRiverNear ⌝ }
-    ensures* fact_4 { λ r. ⌜ RowsUpstream ⌝ }
-    ensures* fact_5 { λ r. ⌜ OwnCallsExist ⌝ }
+    ensures r_value { result ≡ most_steps }
+    ensures fact { OwnRiverSteps }
+    ensures fact_2 { OwnRiverOnwards }
+    ensures fact_3 { OwnRiverNear }
+    ensures fact_4 { RowsUpstream }
+    ensures fact_5 { OwnCallsExist }
 {
     own_river_claim::most_steps()
 }
@@ -724,10 +724,10 @@ pub extern "C" fn yumbaqel_most_steps() -> u32
 // its copies.
 #[unsafe(no_mangle)]
 pub extern "C" fn yumbaqel_most_horizon() -> u32
-    ensures* r_value { λ r. ⌜ r ≡ most_steps ⌝ }
-    ensures* fact { λ r. ⌜ ForecastSays ⌝ }
-    ensures* fact_2 { λ r. ⌜ ForecastNear ⌝ }
-    ensures* fact_3 { λ r. ⌜ PoolForecastSays ⌝ }
+    ensures r_value { result ≡ most_steps }
+    ensures fact { ForecastSays }
+    ensures fact_2 { ForecastNear }
+    ensures fact_3 { PoolForecastSays }
 {
     forecast_claim::most_horizon()
 }
@@ -735,7 +735,7 @@ pub extern "C" fn yumbaqel_most_horizon() -> u32
 // The version of this interface, 3.4.0: the first number times 10,000, the second times 100 and the third.
 #[unsafe(no_mangle)]
 pub extern "C" fn yumbaqel_version() -> u32
-    ensures* { λ r. ⌜ r ≡ 30400 ⌝ }
+    ensures { result ≡ 30400 }
 {
     30400
 }
