@@ -6,9 +6,7 @@ use lib.IntN.{ℤ, pos, negsuc, neg_ℤ}
 use lib.Signed.{mag, quot_z}
 use mir.Syntax.{w64}
 use mir.ValLaws.{to_z_pos, to_z-of_z, sfits_le}
-use borrow.Author.Rules.{rules}
-use Rattle.rounding.proofs.signed.quotient.Statement.{statement}
-use Rattle.rounding.proofs.signed.quotient.Tie as tie
+use Rattle.rounding.proofs.signed.quotient.Goals as goal
 
 -- −m, where m ≤ n + 1, needs no more bits than −(n + 1)
 mag-neg : (m n : ℕ) → m ≤ suc n → mag (neg_ℤ (pos m)) ≤ n
@@ -20,17 +18,14 @@ mag-quot : (a : ℤ) (d : ℕ) → mag (quot_z a (pos d)) ≤ mag a
 mag-quot (pos n) d = div-le_self n d
 mag-quot (negsuc n) d = mag-neg (suc n / d) n (div-le_self (suc n) d)
 
-div-result : tie.Need-nonzero-div-result
-div-result c =
+pub nonzero_div-result : goal.nonzero_div-result
+nonzero_div-result c =
     let a = c.args.a in
     let d = c.args.d in
     rw (to_z-of_z w64 a c.ranges.a, to_z_pos w64 d (omega arith)) (c.requires, sfits_le (mag-quot a d) c.ranges.a)
 
-returns : tie.Need-returns
+pub returns : goal.returns
 returns c =
     let a = c.args.a in
     let d = c.args.d in
     rw (to_z-of_z w64 a c.ranges.a, to_z_pos w64 d (omega arith)) (to_z-of_z w64 _ (sfits_le (mag-quot a d) c.ranges.a))
-
-pub quotient-spec : {M : Type 1} → statement M
-quotient-spec = tie.close (tie.spec (λ c. search rules) div-result returns)

@@ -11,8 +11,7 @@ use mir.ValLaws.{to_z-of_z}
 use borrow.Author.Rules.{rules, sfits_of}
 use borrow.Author.Tests.{le-ltb, ltb-true}
 use Rattle.rounding.specs.Floor.{floor_div}
-use Rattle.rounding.proofs.signed.floor_div.Statement.{statement}
-use Rattle.rounding.proofs.signed.floor_div.Tie as tie
+use Rattle.rounding.proofs.signed.floor_div.Goals as goal
 
 -- −1 − x of an x below 0
 flip-negsuc : (n : ℕ) → negsuc 0 -ℤ negsuc n ≡ pos n
@@ -44,32 +43,24 @@ above (negsuc n) d h = let z : ◌≡◌ {A = ℕ} 0 1 = cc in absurd (omega ari
 back : (z : ℤ) → mag z < 2 ^ 63 → to_z w64 (of_z w64 z) ≡ z
 back z h = to_z-of_z w64 z (sfits_of h)
 
-returns : tie.Need-returns
+pub minus-requires : goal.minus-requires
+minus-requires c = search (rules, flip-fits)
+
+pub minus-requires-then-below_zero : goal.minus-requires-then-below_zero
+minus-requires-then-below_zero c = search (rules, flip-fits)
+
+pub returns-then-below_zero : goal.returns-then-below_zero
+returns-then-below_zero c =
+    let v = c.minus-then-below_zero in
+    let q = c.quotient in
+    let m = c.minus in
+    let x = c.args.x in
+    let x-back = back x c.ranges.x.sfits in
+    rw (back v.result v.type_inv, v.ensures, back q.result q.type_inv, q.ensures, back m.result m.type_inv, m.ensures, x-back) (below x c.args.d (cc))
+
+pub returns : goal.returns
 returns c =
-    let v = c.minus2 in
-    let q = c.before.quotient in
-    let m = c.before.before.minus in
-    let start = c.before.before.before.before.before in
-    let x = start.args.x in
-    let x-back = back x start.ranges.x.sfits in
-    rw (back v.result v.type-inv, v.ensures, back q.result q.type-inv, q.ensures, back m.result m.type-inv, m.ensures, x-back) (below x start.args.d (cc))
-
-returns-2 : tie.Need-returns-2
-returns-2 c =
-    let q = c.quotient2 in
-    let start = c.before.before.before in
-    let x = start.args.x in
-    let x-back = back x start.ranges.x.sfits in
-    rw (back q.result q.type-inv, q.ensures, x-back) (above x start.args.d (cc))
-
-pub floor-div-spec : {M : Type 1} → statement M
-floor-div-spec =
-    tie.close
-    (tie.spec
-    (λ c κs. search rules)
-    (λ c κs. search (rules, flip-fits))
-    (λ c κs. search rules)
-    (λ c κs. search (rules, flip-fits))
-    returns
-    (λ c κs. search rules)
-    returns-2)
+    let q = c.quotient-2 in
+    let x = c.args.x in
+    let x-back = back x c.ranges.x.sfits in
+    rw (back q.result q.type_inv, q.ensures, x-back) (above x c.args.d (cc))
