@@ -26,7 +26,7 @@ use terms::{Finding, Place};
 
 // "Its result also gives M, the print interval, the segment count, and where the rows and the gauges begin on the sheet and how many
 // there are", and "where the flow rows begin and how many there are".
-#[derive(Drop)]
+#[derive(Clone, Copy)]
 pub struct Loaded {
     pub steps: u32,
     pub interval: u32,
@@ -39,7 +39,7 @@ pub struct Loaded {
     pub flowrows: u32,
 }
 
-#[derive(Drop)]
+#[derive(Clone, Copy)]
 pub enum Load {
     Loaded(Loaded),
     Refused(u32, Place),

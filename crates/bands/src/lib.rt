@@ -16,7 +16,7 @@ use sheet::fields::{band_count_at, field, reach_count};
 use terms::{Finding, Hydraulics, Place, Reach};
 
 // "lowest flow, highest flow, A, D and AS"
-#[derive(Drop)]
+#[derive(Clone, Copy)]
 pub struct Band {
     pub lowest: u32,
     pub highest: u32,
@@ -24,7 +24,7 @@ pub struct Band {
 }
 
 // The bands of a reach: where their count stands on the sheet, and the count.
-#[derive(Drop)]
+#[derive(Clone, Copy)]
 pub struct Bands {
     pub at: usize,
     pub count: u32,

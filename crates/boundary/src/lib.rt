@@ -3,7 +3,7 @@ use terms::Place;
 
 pub mod rows;
 
-#[derive(Drop)]
+#[derive(Clone, Copy)]
 pub enum Upstream {
     Figure(u32),
     Refused(u32, Place),

@@ -16,7 +16,7 @@ use sheet::fields::reach;
 use terms::{Hydraulics, Reach};
 
 // A segment of the river.
-#[derive(Drop)]
+#[derive(Clone, Copy)]
 pub struct Cursor {
     // The number of its reach, from 0 in the sheet's order, and how many of that reach's segments lie before it.
     pub number: u32,

@@ -55,6 +55,8 @@ all-of-same (cons x xs) (cons y ys) (SameFigures.cons c z w same) =
     let e = each-of-same x y c z w in
     let es = all-of-same xs ys same in
     (AllUpTo.cons e.0 es.0, AllUpTo.cons e.1 es.1)
+all-of-same none (cons y ys) same = elim same [ ]
+all-of-same (cons x xs) none same = elim same [ ]
 
 -- and back
 pub same-of-all : {D : ℕ} {qs rs : List ExactFigures} {fs gs : List Differences} → 0 < D → AllOver D qs fs → AllOver D rs gs →
@@ -63,6 +65,8 @@ same-of-all h none none AllUpTo.none AllUpTo.none = SameFigures.none
 same-of-all h (cons x xs) (cons y ys) (AllUpTo.cons a more) (AllUpTo.cons b less) =
     let e = same-of-each x y h a b in
     SameFigures.cons e.0 e.1 e.2 (same-of-all h xs ys more less)
+same-of-all h none (cons y ys) same less = elim same [ ]
+same-of-all h (cons x xs) none same less = elim same [ ]
 
 -- ---- the sides of the three equations
 

@@ -84,10 +84,10 @@ build [] h AllOver.none e AllSolved.last AllSolved.last oa' oa = record { new = 
 -- the new figures of all segments, and that they solve the equations
 build (x ∷ xs) h AllOver.none e y y* oa' oa = absurd (omega arith)
 build [] h (AllOver.cons o os) e y y* oa' oa = absurd (omega arith)
-build {D} {q} (x ∷ xs) h (AllOver.cons o os) e (AllSolved.next {f} y ys) (AllSolved.next {f = g} y* ys*) oa' oa =
+build {D} {q} {p = p} (x ∷ xs) h (AllOver.cons o os) e (AllSolved.next {f} y ys) (AllSolved.next {f = g} y* ys*) oa' oa =
     let f' = quotients (D * q) h (less_each f g) in
     let n = over-quotients (D * q) h (less_each f g) in
-    let more = build xs h os (omega arith) ys ys* n.c o.c in
+    let more = build {p = f.c} xs h os (omega arith) ys ys* n.c o.c in
     let both = each-solved y y* in
     let l = left_over oa' more.over n x.new in
     let r = figures-scaled q (right-over oa (below-over os) o x) in

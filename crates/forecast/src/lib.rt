@@ -30,7 +30,7 @@ use terms::{Finding, Place};
 
 // U and the count of the copies: at the first step at which the gauge's channel figure is above the limit, or at the horizon's end, where it is above at
 // none; or refused.
-#[derive(Drop)]
+#[derive(Clone, Copy)]
 pub enum Forecast {
     Above(River),
     NotAbove(River),

@@ -16,7 +16,7 @@ use terms::{Hydraulics, Numbers, Reach};
 
 // What the half-step numbers of a segment are worked out from: its reach, its A, D and AS, the AD above and below, its flow, whether it is
 // the last of the river, and the sheet's dt and dx.
-#[derive(Drop)]
+#[derive(Clone, Copy)]
 pub struct Site {
     pub own: Reach,
     pub hydraulics: Hydraulics,

@@ -4,14 +4,14 @@ ghost use Rattle.std.specs.Prelude.{◌≡◌};
 ghost use Rattle.model.specs.Ranges.{outside};
 ghost use Rattle.limits.specs.Says.{range_says};
 
-#[derive(Drop)]
+#[derive(Clone, Copy)]
 pub struct Range {
     pub low: u32,
     pub high: u32,
 }
 
 // A section of the sheet: a count, and then that many records of `width` fields.
-#[derive(Drop)]
+#[derive(Clone, Copy)]
 pub struct Section {
     pub counts: Range,
     pub width: u32,

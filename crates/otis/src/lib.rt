@@ -18,28 +18,28 @@ use lists::{any_short, copy};
 use terms::{Finding, Fixed, KD, Place, START, Set, set_short};
 
 // The state's U and its count of steps done; the three lists of figures are lent.
-#[derive(Drop)]
+#[derive(Clone, Copy)]
 pub struct River {
     pub upstream: u32,
     pub steps: u32,
 }
 
 // The answer of a start or a step.
-#[derive(Drop)]
+#[derive(Clone, Copy)]
 pub enum Answer {
     Accepted(River),
     Refused(u32, Place),
 }
 
 // The figures of a segment: C, Z and, of the sediment, Kd × W.
-#[derive(Drop)]
+#[derive(Clone, Copy)]
 pub struct Figures {
     pub channel: u32,
     pub storage: u32,
     pub sediment: u64,
 }
 
-#[derive(Drop)]
+#[derive(Clone, Copy)]
 pub enum Report {
     Reported(Figures),
     Refused(u32, Place),

@@ -10,14 +10,14 @@ pub const LINE: usize = 5 * (20 + 1);
 
 // Where the output stands: the bytes used of the buffer, which are still to be written, and whether a write has failed. After a failed write
 // nothing more is written: `due` says so of every write, and `flush` makes that one alone.
-#[derive(Drop)]
+#[derive(Clone, Copy)]
 pub struct Output {
     pub used: usize,
     pub failed: bool,
 }
 
 // A write: to which descriptor, and how many of the buffer's first bytes.
-#[derive(Drop)]
+#[derive(Clone, Copy)]
 struct Write {
     descriptor: i32,
     bytes: usize,

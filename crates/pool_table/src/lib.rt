@@ -18,7 +18,7 @@ pub type Table = [u32; NUMBERS];
 
 // Whether a river is open under the slot's number (0: none is), the first of its segments among those of the shared lists, which count from 0, how
 // many it has, and of its state U and the count of steps done.
-#[derive(Drop)]
+#[derive(Clone, Copy)]
 pub struct Slot {
     pub opened: u32,
     pub first: u32,

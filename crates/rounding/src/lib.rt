@@ -21,7 +21,7 @@ pub fn product(x: u32, y: u32) -> u64
 }
 
 // A quotient with its remainder.
-#[derive(Drop)]
+#[derive(Clone, Copy)]
 struct Split {
     quotient: u64,
     rest: u64,
@@ -98,7 +98,7 @@ fn capped(x: u64) -> u32
 }
 
 // In which base the thirty bits of a fraction are taken, and how many digits they are in it: one whole is the base to that power.
-#[derive(Drop)]
+#[derive(Clone, Copy)]
 struct Radix {
     base: u64,
     digits: u32,

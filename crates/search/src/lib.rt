@@ -13,7 +13,7 @@ use pool_table::{Table, number_fault, taken};
 use terms::Place;
 
 // A segment that is above the limit, which counts from 1; nothing found; or refused.
-#[derive(Drop)]
+#[derive(Clone, Copy)]
 pub enum Search {
     Found(u32),
     Nothing,

@@ -14,7 +14,7 @@ use rounding::WHOLE;
 use terms::Numbers;
 
 // A segment in a step: its numbers on the old side and on the new side, CL and CB.
-#[derive(Drop)]
+#[derive(Clone, Copy)]
 pub struct Pair {
     pub old: Numbers,
     pub new: Numbers,
@@ -23,7 +23,7 @@ pub struct Pair {
 }
 
 // The figures of a segment.
-#[derive(Drop)]
+#[derive(Clone, Copy)]
 pub struct Figures {
     pub c: u32,
     pub z: u32,
@@ -32,7 +32,7 @@ pub struct Figures {
 
 // What the downward pass leaves of a segment: p and y. Beside them are F's two quotients: the segment below tries them, as it mostly has the
 // same numbers.
-#[derive(Drop)]
+#[derive(Clone, Copy)]
 pub struct Passed {
     pub p: u64,
     pub y: u64,
@@ -41,14 +41,14 @@ pub struct Passed {
 }
 
 // What storage or sediment adds to F and to R.
-#[derive(Drop)]
+#[derive(Clone, Copy)]
 struct Terms {
     f: u64,
     r: u64,
 }
 
 // F and R of a segment, and F's two quotients.
-#[derive(Drop)]
+#[derive(Clone, Copy)]
 struct Row {
     f: u64,
     r: u64,

@@ -145,7 +145,7 @@ fn flow_row_fault(steps: u32, j: u32, before: u32, start: u32, top: u32) -> bool
 }
 
 // Entries whose first fields are to rise, and how high: start steps of boundary rows or of flow rows to M, gauges to the last segment.
-#[derive(Drop)]
+#[derive(Clone, Copy)]
 pub enum Entries {
     Rows(u32),
     Gauges(usize),
@@ -153,7 +153,7 @@ pub enum Entries {
 }
 
 // An entry's first field, and whether the entry breaks its rule.
-#[derive(Drop)]
+#[derive(Clone, Copy)]
 struct Judged {
     first: u32,
     fault: bool,

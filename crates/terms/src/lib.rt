@@ -12,7 +12,7 @@ use lists::any_short;
 use rounding::WHOLE;
 
 // Where a refusal is at fault; reaches, segments and rows count from 1.
-#[derive(Drop)]
+#[derive(Clone, Copy)]
 pub enum Place {
     Nothing,
     Reach(u32),
@@ -21,7 +21,7 @@ pub enum Place {
 }
 
 // What a test or a row of tests finds: nothing, or the number and the place of a refusal.
-#[derive(Drop)]
+#[derive(Clone, Copy)]
 pub enum Finding {
     Passes,
     Fails(u32, Place),
@@ -29,7 +29,7 @@ pub enum Finding {
 
 // A reach record: the sixteen fields of a reach, in the sheet's order, and in memory as C lays them out.
 #[repr(C)]
-#[derive(Drop)]
+#[derive(Clone, Copy)]
 pub struct Reach {
     pub segments: u32,
     pub dispersion: u32,
@@ -50,7 +50,7 @@ pub struct Reach {
 }
 
 // A, D and AS of a segment: those of its reach, or of the band that holds its flow.
-#[derive(Drop)]
+#[derive(Clone, Copy)]
 pub struct Hydraulics {
     pub area: u32,
     pub dispersion: u32,
@@ -58,7 +58,7 @@ pub struct Hydraulics {
 }
 
 // The ten half-step numbers of a segment, in parts of one whole.
-#[derive(Drop)]
+#[derive(Clone, Copy)]
 pub struct Numbers {
     pub e: u32,
     pub g: u32,

@@ -667,9 +667,9 @@ pub extern "C" fn yumbaqel_dx(sheet: &[u8]) -> u32
 // Kd, in pg/g, for sediment. With it goes the claim that none is further off.
 #[unsafe(no_mangle)]
 pub extern "C" fn yumbaqel_most_off(steps: u32) -> u64
-    ensures r_value { result ≡ 6 * steps }
-    ensures fact { Demand3 }
-    ensures fact_2 { LoadedLists }
+    ensures value { result ≡ 6 * steps }
+    ensures demand3 { Demand3 }
+    ensures loaded_lists { LoadedLists }
 {
     distance_claim::most_off(steps)
 }
@@ -677,9 +677,9 @@ pub extern "C" fn yumbaqel_most_off(steps: u32) -> u64
 // The most rivers that a pool has open, with the claim that each shows the figures of its own calls, and that an opening leaves what they are to be lent.
 #[unsafe(no_mangle)]
 pub extern "C" fn yumbaqel_most_rivers() -> u32
-    ensures r_value { result ≡ 8 }
-    ensures fact { Sharing }
-    ensures fact_2 { OpenedLists }
+    ensures value { result ≡ 8 }
+    ensures sharing { Sharing }
+    ensures opened_lists { OpenedLists }
 {
     pool_claim::most_rivers()
 }
@@ -688,9 +688,9 @@ pub extern "C" fn yumbaqel_most_rivers() -> u32
 // segment is above, of a river alone and on a pool.
 #[unsafe(no_mangle)]
 pub extern "C" fn yumbaqel_most_blocks() -> u32
-    ensures r_value { result ≡ block_count most_segments }
-    ensures fact { SearchTold }
-    ensures fact_2 { PoolSearchTold }
+    ensures value { result ≡ block_count most_segments }
+    ensures search_told { SearchTold }
+    ensures pool_search_told { PoolSearchTold }
 {
     search_claim::most_blocks()
 }
@@ -699,9 +699,9 @@ pub extern "C" fn yumbaqel_most_blocks() -> u32
 // number.
 #[unsafe(no_mangle)]
 pub extern "C" fn yumbaqel_most_bands() -> u32
-    ensures r_value { result ≡ band_section.counts.high }
-    ensures fact { BandsCover }
-    ensures fact_2 { OrderFree }
+    ensures value { result ≡ band_section.counts.high }
+    ensures bands_cover { BandsCover }
+    ensures order_free { OrderFree }
 {
     bands_claim::most_bands()
 }
@@ -710,12 +710,12 @@ pub extern "C" fn yumbaqel_most_bands() -> u32
 // steps leave what the definitions say, and that demand 3 holds of them.
 #[unsafe(no_mangle)]
 pub extern "C" fn yumbaqel_most_steps() -> u32
-    ensures r_value { result ≡ most_steps }
-    ensures fact { OwnRiverSteps }
-    ensures fact_2 { OwnRiverOnwards }
-    ensures fact_3 { OwnRiverNear }
-    ensures fact_4 { RowsUpstream }
-    ensures fact_5 { OwnCallsExist }
+    ensures value { result ≡ most_steps }
+    ensures own_river_steps { OwnRiverSteps }
+    ensures own_river_onwards { OwnRiverOnwards }
+    ensures own_river_near { OwnRiverNear }
+    ensures rows_upstream { RowsUpstream }
+    ensures own_calls_exist { OwnCallsExist }
 {
     own_river_claim::most_steps()
 }
@@ -724,10 +724,10 @@ pub extern "C" fn yumbaqel_most_steps() -> u32
 // its copies.
 #[unsafe(no_mangle)]
 pub extern "C" fn yumbaqel_most_horizon() -> u32
-    ensures r_value { result ≡ most_steps }
-    ensures fact { ForecastSays }
-    ensures fact_2 { ForecastNear }
-    ensures fact_3 { PoolForecastSays }
+    ensures value { result ≡ most_steps }
+    ensures forecast_says { ForecastSays }
+    ensures forecast_near { ForecastNear }
+    ensures pool_forecast_says { PoolForecastSays }
 {
     forecast_claim::most_horizon()
 }
