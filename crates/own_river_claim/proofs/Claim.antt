@@ -33,16 +33,23 @@ module _ (sheet : List ℕ) (front : first (river_tests sheet) ≡ passes) (u : 
       state.steps + length calls ≤ steps_m sheet → OwnRun u sheet state calls
   unfolding run ahead own_step write_figures
   own-run state [] stands OwnCalls.none b h = record { accepted = tt; leaves = refl; fed = Fed.none }
-  own-run state (call ∷ calls) stands (OwnCalls.more {old} {new} {highest} {working} l rest) b h =
-      let u' = u (suc state.steps) in
-      let within = range (suc state.steps) b (omega arith) in
-      let e = step-leaves sheet front state stands old new highest working l u' within (omega arith) in
-      let x = own-run (own_step sheet u' state) calls (step-stands sheet front state stands u' within) rest (omega arith) (omega arith) in
-      record {
-        accepted = (step-taken sheet front state stands old new highest working l u' within (omega arith), rw e x.accepted);
-        leaves = rw e x.leaves;
-        fed = Fed.more {state = state} {call = call} {calls = calls} (λ a. l.pair) (rw e x.fed);
-      }
+  own-run state (call ∷ calls) stands own b h = one-more state call own stands b h (λ next. own-run next calls)
+    where
+      one-more : (state : State) (call : LoneCall) → OwnCalls u sheet state.steps (call ∷ calls) → Standing sheet state → from ≤ suc state.steps →
+          state.steps + length (call ∷ calls) ≤ steps_m sheet →
+          ((next : State) → Standing sheet next → OwnCalls u sheet next.steps calls → from ≤ suc next.steps →
+          next.steps + length calls ≤ steps_m sheet → OwnRun u sheet next calls) →
+          OwnRun u sheet state (call ∷ calls)
+      one-more state call (OwnCalls.more {old} {new} {highest} {working} l rest) stands b h onwards =
+          let u' = u (suc state.steps) in
+          let within = range (suc state.steps) b (omega arith) in
+          let e = step-leaves sheet front state stands old new highest working l u' within (omega arith) in
+          let x = onwards (own_step sheet u' state) (step-stands sheet front state stands u' within) rest (omega arith) (omega arith) in
+          record {
+            accepted = (step-taken sheet front state stands old new highest working l u' within (omega arith), rw e x.accepted);
+            leaves = rw e x.leaves;
+            fed = Fed.more {state = state} {call = call} {calls = calls} (λ a. l.pair) (rw e x.fed);
+          }
 
   -- and no further
   own-end : (state : State) (k : ℕ) → Standing sheet state → from ≤ suc state.steps → state.steps + k ≡ steps_m sheet → Done sheet (ahead u sheet state k)
