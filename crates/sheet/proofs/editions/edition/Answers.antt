@@ -1,0 +1,31 @@
+-- `edition` meets its contract, of each mark and of none. Assumes nothing.
+use mathlib.Core.Path.{sym, ◌∙◌}
+use Rattle.model.specs.Sheet.{edition}
+use Rattle.sheet.proofs.editions.edition.Goals as goal
+
+pub returns-then-starts_with : goal.returns-then-starts_with
+unfolding edition
+returns-then-starts_with c = rw (sym c.starts_with.ensures ∙ c.if-starts_with.true)
+
+pub returns-then-starts_with-2 : goal.returns-then-starts_with-2
+unfolding edition
+returns-then-starts_with-2 c =
+    rw (sym c.starts_with.ensures ∙ c.if-starts_with.false, sym c.starts_with-2.ensures ∙ c.if-starts_with-2.true)
+
+pub returns-then-starts_with-3 : goal.returns-then-starts_with-3
+unfolding edition
+returns-then-starts_with-3 c =
+    rw (
+      sym c.starts_with.ensures ∙ c.if-starts_with.false,
+      sym c.starts_with-2.ensures ∙ c.if-starts_with-2.false,
+      sym c.starts_with-3.ensures ∙ c.if-starts_with-3.true,
+    )
+
+pub returns : goal.returns
+unfolding edition
+returns c =
+    rw (
+      sym c.starts_with.ensures ∙ c.if-starts_with.false,
+      sym c.starts_with-2.ensures ∙ c.if-starts_with-2.false,
+      sym c.starts_with-3.ensures ∙ c.if-starts_with-3.false,
+    )

@@ -1,9 +1,0 @@
--- `row_start` meets its contract. Assumes nothing.
-use Rattle.sheet.proofs.fields.row_start.Statement.{statement}
-use Rattle.sheet.proofs.fields.row_start.Tie as tie
-
-returns : tie.Need-returns
-returns c = rw (← c.before.row-count-at.ensures.0) c.record-field.ensures
-
-pub row-start-spec : {M : Type 1} → statement M
-row-start-spec = tie.close (tie.spec (λ c κs. tt) (λ c κs. tt) returns)

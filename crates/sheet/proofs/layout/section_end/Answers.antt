@@ -1,0 +1,31 @@
+-- `section_end` meets its contract: at most 31 fields of 4 bytes for each of at most 2^32 records. Assumes nothing.
+use Prim.Native.Nat.{◌^◌}
+use native.Mathlib.Nat.{mul-le-mul}
+use native.Mathlib.Omega.{arith}
+use Rattle.model.specs.Sheet.{section_end}
+use Rattle.sheet.proofs.layout.section_end.Goals as goal
+
+pub overflow_add-result : goal.overflow_add-result
+overflow_add-result c = omega arith
+
+pub overflow_cast-result : goal.overflow_cast-result
+overflow_cast-result c = omega arith
+
+pub field-requires : goal.field-requires
+field-requires c = tt
+
+pub overflow_cast-result-2 : goal.overflow_cast-result-2
+overflow_cast-result-2 c = omega arith
+
+pub overflow_mul-result : goal.overflow_mul-result
+overflow_mul-result c = omega (arith, (mul-le-mul {n₂ = 31} {m₂ = 2 ^ 32} (omega arith) (omega arith)))
+
+pub overflow_mul-result-2 : goal.overflow_mul-result-2
+overflow_mul-result-2 c = omega (arith, (mul-le-mul {n₂ = 31} {m₂ = 2 ^ 32} (omega arith) (omega arith)))
+
+pub overflow_add-result-2 : goal.overflow_add-result-2
+overflow_add-result-2 c = omega (arith, (mul-le-mul {n₂ = 31} {m₂ = 2 ^ 32} (omega arith) (omega arith)))
+
+pub returns : goal.returns
+unfolding section_end
+returns c = (rw c.field.ensures, omega (arith, (mul-le-mul {n₂ = 31} {m₂ = 2 ^ 32} (omega arith) (omega arith))))
