@@ -1,0 +1,15 @@
+-- `is_covered` meets its contract.
+use mathlib.Core.Bool.{false}
+use mathlib.Core.Path.{◌≡◌}
+use Prim.Native.Nat.{◌-◌, ◌≤◌}
+use Rattle.lists.specs.Lists.{any_below}
+use Rattle.model.specs.Ranges.{most_rivers}
+use Rattle.model.specs.Pool.{slot_at, holds}
+use Rattle.terms.specs.Lent.{table_in}
+use Rattle.packing.proofs.is_covered.Given as goal
+
+abbrev pub invariant-loop-i : goal.invariant-loop-i
+invariant-loop-i l = (l.i ≤ most_rivers) × (any_below l.i (λ j. holds (slot_at (table_in l.table) j) l.s) ≡ false)
+
+abbrev pub decreases-loop-i : goal.decreases-loop-i
+decreases-loop-i l = most_rivers - l.i

@@ -1,0 +1,25 @@
+-- `room_fault` meets its contract.
+use native.Mathlib.Omega.{arith}
+use borrow.Author.Tests.{lt-ltb, le-ltb}
+use Rattle.model.specs.Ranges.{outside}
+use Rattle.model.specs.Pool.{room_fault}
+use Rattle.pool_table.proofs.room_fault.Goals as goal
+
+pub returns-then-river-lt1 : goal.returns-then-river-lt1
+unfolding room_fault outside
+returns-then-river-lt1 c = rw (lt-ltb _ _ c.if-river-lt1.true)
+
+pub returns-then-river-gt-RIVERS : goal.returns-then-river-gt-RIVERS
+unfolding room_fault outside
+returns-then-river-gt-RIVERS c = rw (le-ltb _ _ c.if-river-lt1.false, lt-ltb _ _ c.if-river-gt-RIVERS.true)
+
+pub returns-then-is_open : goal.returns-then-is_open
+unfolding room_fault outside
+returns-then-is_open c = rw (le-ltb _ _ c.if-river-lt1.false, le-ltb _ _ c.if-river-gt-RIVERS.false, ← c.taken.ensures, ← c.is_open.ensures, c.if-is_open.true)
+
+pub overflow_add-result : goal.overflow_add-result
+overflow_add-result c = omega (arith, c.open_segments.ensures.1, c.ranges.n)
+
+pub returns : goal.returns
+unfolding room_fault outside
+returns c = rw (le-ltb _ _ c.if-river-lt1.false, le-ltb _ _ c.if-river-gt-RIVERS.false, ← c.taken.ensures, ← c.is_open.ensures, c.if-is_open.false, ← c.open_segments.ensures.0)
