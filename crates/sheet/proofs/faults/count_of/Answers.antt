@@ -11,10 +11,10 @@ pub flow_row_count-requires : goal.flow_row_count-requires
 flow_row_count-requires c = tt
 
 pub returns-in-Rows : goal.returns-in-Rows
-returns-in-Rows c = rw c.enum_told-1.given.1 c.row_count.ensures
+returns-in-Rows c = rw c.in-Rows.is c.row_count.ensures
 
 pub returns-in-Gauges : goal.returns-in-Gauges
-returns-in-Gauges c = rw c.enum_told-in-Gauges-1.given.1 c.gauge_count.ensures
+returns-in-Gauges c = rw c.in-Gauges.is c.gauge_count.ensures
 
 pub returns-in-FlowRows : goal.returns-in-FlowRows
-returns-in-FlowRows c = rw c.enum_told-in-FlowRows-1.given.1 c.flow_row_count.ensures
+returns-in-FlowRows c = rw c.in-FlowRows.is c.flow_row_count.ensures

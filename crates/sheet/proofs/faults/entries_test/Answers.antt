@@ -1,8 +1,6 @@
 use mathlib.Core.Path.{sym, ◌∙◌}
-use Prim.Native.Nat.{◌-◌}
 use native.Mathlib.Omega.{arith}
 use Rattle.model.specs.Refusals.{row}
-use Rattle.sheet.specs.Entries.{count_of}
 use Rattle.sheet.proofs.Entries.{passing-start, passing-miss}
 use Rattle.sheet.proofs.Tests.{each-found, each-clear}
 use Rattle.sheet.proofs.faults.entries_test.Goals as goal

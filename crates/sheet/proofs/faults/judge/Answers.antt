@@ -29,7 +29,7 @@ flow_row_fault-fault-requires c = tt
 
 pub returns-in-Rows : goal.returns-in-Rows
 returns-in-Rows c =
-    let is = c.entries-1.given.1 in
+    let is = c.in-Rows.is in
     let h = rw is at c.requires in
     let first = row-start c.args.sheet.now _ h ∙ sym c.row_start-first.ensures in
     let figure = row-concentration c.args.sheet.now _ h ∙ sym c.row_concentration.ensures in
@@ -37,13 +37,13 @@ returns-in-Rows c =
 
 pub returns-in-Gauges : goal.returns-in-Gauges
 returns-in-Gauges c =
-    let is = c.entries-in-Gauges-1.given.1 in
+    let is = c.in-Gauges.is in
     let first = gauge c.args.sheet.now _ (rw is at c.requires) ∙ sym c.gauge-first.ensures in
     rw is (first, λ b. c.gauge_fault-fault.ensures _ (record { before_is = b; gauge_is = first }))
 
 pub returns-in-FlowRows : goal.returns-in-FlowRows
 returns-in-FlowRows c =
-    let is = c.entries-in-FlowRows-1.given.1 in
+    let is = c.in-FlowRows.is in
     let h = rw is at c.requires in
     let first = flow-row-start c.args.sheet.now _ h ∙ sym c.flow_row_start-first.ensures in
     let figure = flow-row-top c.args.sheet.now _ h ∙ sym c.flow_row_top.ensures in

@@ -1,8 +1,6 @@
 use mathlib.Core.Path.{sym, ap, ap₂, ◌∙◌}
-use Prim.Native.Nat.{◌-◌}
 use native.Mathlib.Omega.{arith}
 use Rattle.model.specs.Ranges.{◌to◌, outside}
-use Rattle.model.specs.Sheet.{edition}
 use Rattle.sheet.proofs.Entries.{reach-fields, reach-field}
 use Rattle.sheet.proofs.InRange.{checking-start, checking-hit, checking-miss, checking-end}
 use Rattle.sheet.proofs.faults.reach_fault.Goals as goal

@@ -1,8 +1,6 @@
 use mathlib.Core.Path.{sym, ◌∙◌}
-use Prim.Native.Nat.{◌-◌}
 use native.Mathlib.Omega.{arith}
 use Rattle.lists.proofs.Lowest.{searching-start, searching-miss}
-use Rattle.model.specs.Sheet.{reach_count}
 use Rattle.model.specs.Refusals.{reach}
 use Rattle.sheet.proofs.Tests.{each-found, each-clear}
 use Rattle.sheet.proofs.faults.reach_test.Goals as goal

@@ -1,7 +1,6 @@
 use mathlib.Core.Path.{◌≡◌, sym, ◌∙◌}
 use native.Mathlib.Omega.{arith}
 use borrow.Author.Rules.{rules}
-use Rattle.model.specs.Sheet.{flow_row_start}
 use Rattle.model.specs.Flow.{last_begun, flow_in_force}
 use Rattle.sheet.proofs.Flows.{begun-last, begun-before}
 use Rattle.sheet.proofs.fields.flow_in_force.Goals as goal

@@ -1,20 +1,14 @@
 use mathlib.Core.Path.{refl}
-use mathlib.Core.List.{List, [], ◌∷◌}
-use Prim.Native.Nat.{ℕ, ◌-◌}
+use mathlib.Core.List.{[], ◌∷◌}
 use native.Mathlib.Omega.{arith}
 use borrow.Author.Tests.{lt-ltb, le-ltb}
 use lib.ListN.{length}
 use Rattle.lists.specs.Lists.{any_shorter}
 use Rattle.lists.proofs.Shorter.{none-shorter}
 use Rattle.lists.proofs.Over.{filling-start, filling-turn, filling-end}
-use Rattle.model.specs.Ranges.{row_section}
-use Rattle.model.specs.Sheet.{record_field, row_count_at, row_count, row_starts, row_concentrations}
+use Rattle.model.specs.Sheet.{row_count, row_starts, row_concentrations}
 use Rattle.sheet.specs.Rows.{row_list_test}
 use Rattle.sheet.proofs.rows.copy_rows.Goals as goal
-
--- field k of each row
-abbrev row_field : List ℕ → ℕ → ℕ → ℕ
-row_field sheet k j = record_field sheet (row_count_at sheet) row_section j k
 
 pub row_count-count-requires : goal.row_count-count-requires
 row_count-count-requires c = tt
@@ -31,13 +25,11 @@ returns-then-starts-count-clause-found c =
 pub returns-then-starts-count-clause-starts : goal.returns-then-starts-count-clause-starts
 unfolding row_list_test any_shorter
 returns-then-starts-count-clause-starts c =
-    let a = c.args in
     refl
 
 pub returns-then-starts-count-clause-concentrations : goal.returns-then-starts-count-clause-concentrations
 unfolding row_list_test any_shorter
 returns-then-starts-count-clause-concentrations c =
-    let a = c.args in
     refl
 
 pub returns-then-concentrations-count-clause-found : goal.returns-then-concentrations-count-clause-found
@@ -50,15 +42,11 @@ returns-then-concentrations-count-clause-found c =
 pub returns-then-concentrations-count-clause-starts : goal.returns-then-concentrations-count-clause-starts
 unfolding row_list_test any_shorter
 returns-then-concentrations-count-clause-starts c =
-    let a = c.args in
-    let count = row_count a.sheet.now in
     refl
 
 pub returns-then-concentrations-count-clause-concentrations : goal.returns-then-concentrations-count-clause-concentrations
 unfolding row_list_test any_shorter
 returns-then-concentrations-count-clause-concentrations c =
-    let a = c.args in
-    let count = row_count a.sheet.now in
     refl
 
 pub loop-j-init : goal.loop-j-init
@@ -106,19 +94,14 @@ pub returns-clause-found : goal.returns-clause-found
 unfolding row_list_test row_starts row_concentrations
 returns-clause-found c =
     let a = c.args in
-    let l = c.loop-j in
     let count = row_count a.sheet.now in rw (none-shorter count (a.starts.now ∷ a.concentrations.now ∷ []) (omega arith))
 
 pub returns-clause-starts : goal.returns-clause-starts
 unfolding row_list_test row_starts row_concentrations
 returns-clause-starts c =
-    let a = c.args in
-    let l = c.loop-j in
-    let count = row_count a.sheet.now in (filling-end count l.invariant.0 (omega arith), filling-end count l.invariant.1 (omega arith))
+    filling-end (row_count c.args.sheet.now) c.loop-j.invariant.0 (omega arith)
 
 pub returns-clause-concentrations : goal.returns-clause-concentrations
 unfolding row_list_test row_starts row_concentrations
 returns-clause-concentrations c =
-    let a = c.args in
-    let l = c.loop-j in
-    let count = row_count a.sheet.now in 
+    filling-end (row_count c.args.sheet.now) c.loop-j.invariant.1 (omega arith)

@@ -1,5 +1,5 @@
-use mathlib.Core.Path.{◌≡◌, sym, ◌∙◌}
-use Prim.Native.Nat.{◌-◌}
+use mathlib.Core.Path.{sym, ◌∙◌}
+use Prim.Native.Nat.{◌<◌}
 use native.Mathlib.Omega.{arith}
 use lib.ListN.{length}
 use Rattle.model.specs.Ranges.{band_section}
@@ -25,7 +25,9 @@ pub overflow_add-at : goal.overflow_add-at
 overflow_add-at c = omega (arith, c.loop-k.invariant.3)
 
 pub returns-then-sheet-at : goal.returns-then-sheet-at
-returns-then-sheet-at c = λ walked. fails-passes (walking-short (c.loop-k.invariant.1 walked) band_section (omega (arith, c.loop-k-test.true, many c.before.before)) c.if-sheet-at.true ∙ walked)
+returns-then-sheet-at c =
+    let many = c.section_count-count.ensures.0 _ (sym c.edition-edition.ensures) (sym c.reach_count.ensures) in
+    λ walked. fails-passes (walking-short (c.loop-k.invariant.1 walked) band_section (omega (arith, many)) c.if-sheet-at.true ∙ walked)
 
 pub section_of-requires : goal.section_of-requires
 section_of-requires c = tt
@@ -42,7 +44,7 @@ loop-k-smaller c = omega arith
 pub loop-k-preserved : goal.loop-k-preserved
 loop-k-preserved c =
     let i = c.loop-k.invariant in
-    let h = (omega (arith, c.loop-k-test.true, many c.before.before)) in
+    let h : c.loop-k.k < length (sections c.args.sheet.now) = omega (arith, c.section_count-count.ensures.0 _ (sym c.edition-edition.ensures) (sym c.reach_count.ensures)) in
     let e = c.section_of.ensures.0 _ (sym c.edition-edition.ensures) h in (
       rw c.section_end-at.ensures.0 (ending-on i.0 band_section h (section_says c.section_of.result) e),
       λ walked. rw c.section_end-at.ensures.0 (walking-pass (i.1 walked) band_section h (section_says c.section_of.result) e walked).1,
@@ -52,8 +54,4 @@ loop-k-preserved c =
 
 pub returns : goal.returns
 unfolding sheet_end
-returns c = λ walked. ending-end c.loop-k.invariant.0 (omega (arith, c.loop-k-test.false, (c.section_count-count.ensures.0 _ (sym c.before.before.edition-edition.ensures) (sym c.before.reach_count.ensures))))
-
--- TODO helper over places
--- many : (c : tie.After-section-count invariant-loop decreases-loop) → c.section_count-count.result ≡ length (sections c.args.sheet.now)
--- (c.section_count-count.ensures.0 _ (sym c.before.before.edition-edition.ensures) (sym c.before.reach_count.ensures)) = c.section_count-count.ensures.0 _ (sym c.edition-edition.ensures) (sym c.reach_count.ensures)
+returns c = λ walked. ending-end c.loop-k.invariant.0 (omega (arith, c.section_count-count.ensures.0 _ (sym c.edition-edition.ensures) (sym c.reach_count.ensures)))
