@@ -1,4 +1,6 @@
 // Document 02, 6: the bands of a reach, A, D and AS at a flow, and test 19.
+#![tactic(auto)]
+
 ghost use Rattle.std.specs.Prelude.{not, ◌≡◌, suc, ◌<◌};
 ghost use Rattle.model.specs.Sheet.{reach_count, bands_on};
 ghost use Rattle.model.specs.Ranges.{◌to◌, outside};

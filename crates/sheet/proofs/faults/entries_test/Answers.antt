@@ -18,7 +18,7 @@ pub overflow_add-result : goal.overflow_add-result
 overflow_add-result c = omega arith
 
 pub returns-then-x : goal.returns-then-x
-returns-then-x c = each-found _ row c.loop-j.invariant.searching (omega arith) ((sym (c.judge-x.ensures.1 c.before.before.loop-j.invariant.last)) ∙ c.if-x.true)
+returns-then-x c = each-found _ row c.loop-j.invariant.searching (omega arith) (sym (c.judge-x.ensures.1 c.loop-j.invariant.last) ∙ c.if-x.true)
 
 pub overflow_add-j : goal.overflow_add-j
 overflow_add-j c = omega arith
@@ -28,7 +28,7 @@ loop-j-smaller c = omega arith
 
 pub loop-j-preserved : goal.loop-j-preserved
 loop-j-preserved c =
-    passing-miss c.loop-j.invariant (omega arith) ((sym (c.judge-x.ensures.1 c.before.before.loop-j.invariant.last)) ∙ c.if-x.false) c.judge-x.ensures.0
+    passing-miss c.loop-j.invariant (omega arith) (sym (c.judge-x.ensures.1 c.loop-j.invariant.last) ∙ c.if-x.false) c.judge-x.ensures.0
 
 pub returns : goal.returns
 returns c = each-clear _ row c.loop-j.invariant.searching (omega arith)

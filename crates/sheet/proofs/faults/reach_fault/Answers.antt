@@ -24,7 +24,7 @@ pub returns-then-outside : goal.returns-then-outside
 returns-then-outside c =
     let a = c.args in
     checking-hit c.loop-k.invariant.0 (0 to 0) (omega arith) (omega (arith, reach-fields a.sheet.now a.i))
-    ((ap₂ outside (sym c.before.before.reach_range.ensures) (reach-field _ _ _ (omega arith) ∙ sym c.before.reach_field.ensures) ∙ sym c.outside.ensures) ∙ c.if-outside.true)
+    ((ap₂ outside (sym c.reach_range.ensures) (reach-field _ _ _ (omega arith) ∙ sym c.reach_field.ensures) ∙ sym c.outside.ensures) ∙ c.if-outside.true)
 
 pub overflow_add-k : goal.overflow_add-k
 overflow_add-k c = omega arith
@@ -36,7 +36,7 @@ pub loop-k-preserved : goal.loop-k-preserved
 loop-k-preserved c =
     let a = c.args in (
       checking-miss c.loop-k.invariant.0 (0 to 0) (omega arith) (omega (arith, reach-fields a.sheet.now a.i))
-          ((ap₂ outside (sym c.before.before.reach_range.ensures) (reach-field _ _ _ (omega arith) ∙ sym c.before.reach_field.ensures) ∙ sym c.outside.ensures) ∙ c.if-outside.false),
+          ((ap₂ outside (sym c.reach_range.ensures) (reach-field _ _ _ (omega arith) ∙ sym c.reach_field.ensures) ∙ sym c.outside.ensures) ∙ c.if-outside.false),
       omega arith,
       c.loop-k.invariant.2,
     )
