@@ -1,5 +1,7 @@
 // The flow of a segment and its half-step numbers: document 01, "Flow and half-step numbers", and document 02, 2 and 6, with tests 10 to 12,
 // on values.
+#![tactic(auto)]
+
 ghost use Rattle.std.specs.Prelude.{false, ◌≡◌, ◌*◌, ◌^◌, ◌<◌, ◌≤◌, pos, nat_abs, ◌+ℤ◌};
 ghost use Rattle.std.specs.Int.Signed.{lt_z};
 ghost use Rattle.rounding.specs.Nearest.{S, parts};
