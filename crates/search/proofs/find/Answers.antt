@@ -6,6 +6,7 @@ use borrow.Author.Rules.{rules}
 use Rattle.model.proofs.Search.{finds-none, finds-some}
 use Rattle.search.proofs.Blocks.{none-start, hit, miss, end-block, end-river, none-to, skip}
 use Rattle.search.proofs.find.Goals as goal
+use Rattle.search.proofs.find.Goals.{then-limit-highest+else-loop-i-test, then-limit-highest+then-loop-i-test+then-from-i, else-limit-highest}
 
 pub blocks-2-init : goal.blocks-2-init
 blocks-2-init c = (refl, search rules, search rules, none-start)
@@ -20,13 +21,26 @@ loop-i-preserved c = let v = c.loop-i.invariant in (v.0, search rules, search ru
 pub blocks-2-preserved : goal.blocks-2-preserved
 blocks-2-preserved c =
     let v = c.blocks-2.invariant in
-    let on = c.blocks-2-test.true in
-    ⊎_elim
-    (λ w. (w.3 ∙ w.1.inv.0, omega (arith, v.1), omega (arith, on), none-to _ (end-river w.1.inv.3 w.2.left)))
-    (⊎_elim
-    (λ w. (w.4 ∙ w.1.inv.0, omega (arith, v.1), omega (arith, on), end-block w.1.inv.3 w.3.taken))
-    (λ w. (w.1 ∙ v.0, omega (arith, v.1), omega (arith, on), end-block (skip c.blocks-2.b v.1 w.0.left v.3) (omega (arith, w.2)))))
-    c.if-limit-highest.branch
+    elim c.if-limit-highest.branch [
+      then-limit-highest+else-loop-i-test w ↦ (
+        w.found-is ∙ w.loop-i.invariant.0,
+        omega arith,
+        omega arith,
+        none-to _ (end-river w.loop-i.invariant.3 w.loop-i-test.false),
+      )
+    | then-limit-highest+then-loop-i-test+then-from-i w ↦ (
+        w.found-is ∙ w.loop-i.invariant.0,
+        omega arith,
+        omega arith,
+        end-block w.loop-i.invariant.3 w.if-from-i.true,
+      )
+    | else-limit-highest w ↦ (
+        w.found-is ∙ v.0,
+        omega arith,
+        omega arith,
+        skip c.blocks-2.b v.1 w.if-limit-highest.false v.3,
+      )
+    ]
 
 pub returns-after-blocks-2 : goal.returns-after-blocks-2
 returns-after-blocks-2 c = rw c.blocks-2.invariant.0 (finds-none (end-river c.blocks-2.invariant.3 c.blocks-2-test.false))
