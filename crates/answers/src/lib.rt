@@ -1,4 +1,6 @@
 // Answers, written for a C caller. Every store that rests on the answer is in a function of its own.
+#![tactic(auto)]
+
 ghost use Rattle.std.specs.Prelude.{◌≡◌};
 ghost use Rattle.model.specs.Refusals.{passes};
 ghost use Rattle.terms.specs.Says.{place_says, finding_says};

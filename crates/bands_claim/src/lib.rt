@@ -1,5 +1,7 @@
 // The bands of a reach: how many there can be, and the claims that test 19 passes exactly the bands that cover every flow once, and that their
 // order moves no number.
+#![tactic(auto)]
+
 ghost use Rattle.std.specs.Prelude.{◌≡◌};
 ghost use Rattle.model.specs.Ranges.{band_section};
 ghost use Rattle.model.specs.BandClaim.{BandsCover, OrderFree};

@@ -1,4 +1,6 @@
 // The highest channel figure of each sixteen segments, which a start or a step leaves beside the lists. Sixteen segments are a block.
+#![tactic(auto)]
+
 ghost use Rattle.std.specs.Prelude.{◌≡◌, ◌+◌, ◌≤◌, length, get_or};
 ghost use Rattle.lists.specs.Lists.{over, highest_below};
 ghost use Rattle.model.specs.Ranges.{most_segments};

@@ -1,4 +1,6 @@
 // Tests 13 and 14 of a start, a step and a report, on lists of any length and content.
+#![tactic(auto)]
+
 ghost use Rattle.std.specs.Prelude.{◌≡◌, ◌+◌, ◌<◌};
 ghost use Rattle.model.specs.Ranges.{most_segments};
 ghost use Rattle.model.specs.Refusals.{segment, first};

@@ -1,4 +1,6 @@
 // Demand 3: how far the figures of a river may be off its exact river, and the claim that they are no further.
+#![tactic(auto)]
+
 ghost use Rattle.std.specs.Prelude.{◌≡◌, ◌*◌};
 ghost use Rattle.model.specs.Claim.{Demand3, LoadedLists};
 

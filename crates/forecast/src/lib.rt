@@ -1,4 +1,6 @@
 // When will it reach the gate? A forecast copies the state, and steps the copies ahead with U' and the sets that the sheet gives for each step.
+#![tactic(auto)]
+
 ghost use Rattle.std.specs.Prelude.{◌≡◌, not, cond, ◌||◌, ℕ, ◌+◌, ◌*◌, ◌<◌, ◌≤◌, eqb, ltb, length, get_or};
 ghost use Rattle.lists.specs.Lists.{any_under, any_below};
 ghost use Rattle.lists.specs.Lent.{plain};

@@ -1,8 +1,8 @@
 -- Bounds of a fraction, and its distance from a whole number, as inequalities of natural numbers over a common denominator.
-use Prim.Native.Nat.{ℕ, ◌+◌, ◌*◌, ◌<◌, ◌≤◌}
+use Prim.Native.Nat.{ℕ, ◌+◌, ◌*◌, ◌<◌}
 use native.Mathlib.Nat.{mul-le-mul_left, mul-le-mul_right, le_of_mul-le-mul_right}
 use native.Mathlib.Omega.{arith}
-use lib.IntN.{ℤ, pos, ◌+ℤ◌}
+use lib.IntN.{pos, ◌+ℤ◌}
 use lib.Signed.{◌≤ℤ◌}
 use Rattle.fractions.specs.Fractions.{Fraction, Within, whole, ◌·◌}
 use Rattle.fractions.proofs.Whole.{at_most, at-most-parts, sum-parts}

@@ -1,5 +1,7 @@
 // Document 01, "The river sheet", with the sections of document 02: the range of every field and count, and the limits of the calls, each
 // number written once. `model/specs/Ranges` has the same for the definitions.
+#![tactic(auto)]
+
 ghost use Rattle.std.specs.Prelude.{◌≡◌};
 ghost use Rattle.model.specs.Ranges.{outside};
 ghost use Rattle.limits.specs.Says.{range_says};

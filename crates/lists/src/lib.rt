@@ -1,5 +1,7 @@
 // Lists that a caller lends: test 13 of their lengths, one copied over another, and the lower and the higher of two numbers. What else is
 // said of lists is definitions (specs/) and laws (proofs/).
+#![tactic(auto)]
+
 ghost use Rattle.std.specs.Prelude.{◌≡◌, ◌≤◌, min, max, length, get_or};
 ghost use Rattle.lists.specs.Lists.{tab, over, any_under};
 

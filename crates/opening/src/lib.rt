@@ -1,4 +1,6 @@
 // An opening of a river in a pool that is lent the list of reach records with the other lists: the documents' call.
+#![tactic(auto)]
+
 ghost use Rattle.std.specs.Prelude.{◌≡◌, map, length};
 ghost use Rattle.model.specs.Pool.{open_answer, open_columns, open_records, pool_open, open_highest};
 ghost use Rattle.terms.specs.Says.{reach_says};

@@ -1,4 +1,6 @@
 // The public calls of the documents on a river that stands in lent lists: start, step and report.
+#![tactic(auto)]
+
 ghost use Rattle.std.specs.Prelude.{◌≡◌, ◌||◌, [], ◌∷◌, map, ℕ, ◌*◌, ◌<◌, leb, ltb, length, get_or};
 ghost use Rattle.lists.specs.Lists.{any_under};
 ghost use Rattle.model.specs.Highest.{block_count};

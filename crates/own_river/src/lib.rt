@@ -1,5 +1,7 @@
 // The sheet's own river in lent lists: its start and its next step, with both sides of a step filled off the sheet. No test is made: what 13 to 15
 // ask is known of an accepted sheet and kept from step to step.
+#![tactic(auto)]
+
 ghost use Rattle.std.specs.Prelude.{◌<◌, ◌≤◌};
 ghost use Rattle.lists.specs.Lent.{plain};
 ghost use Rattle.model.specs.Ranges.{highest, most_steps};

@@ -1,5 +1,7 @@
 // The sheet's own river: the most steps that it can make, and the claims that none of them is refused, that they leave what the definitions say
 // and that demand 3 holds of them.
+#![tactic(auto)]
+
 ghost use Rattle.std.specs.Prelude.{◌≡◌};
 ghost use Rattle.model.specs.Ranges.{most_steps};
 ghost use Rattle.model.specs.OwnRiverClaim.{OwnRiverSteps, OwnRiverOnwards, OwnRiverNear, RowsUpstream, OwnCallsExist};

@@ -1,5 +1,7 @@
 // What an accepted opening does to a pool: the segments of the open rivers move to the front of each shared list, in their order, and the new
 // river's start figures stand behind them; and the table that says so.
+#![tactic(auto)]
+
 ghost use Rattle.std.specs.Prelude.{◌≡◌, false, cond, map, ◌+◌, ◌<◌, ◌≤◌, length, get_or, set};
 ghost use Rattle.lists.specs.Lists.{tab, over};
 ghost use Rattle.model.specs.Ranges.{most_segments, most_rivers};

@@ -1,4 +1,6 @@
 // The calls on a pool: a table and three lists that up to eight rivers share. Each river works on its own stretch of the lists.
+#![tactic(auto)]
+
 ghost use Rattle.std.specs.Prelude.{◌≡◌, false, ◌||◌, [], ◌∷◌, ◌+◌, ◌≤◌, ltb, length};
 ghost use Rattle.lists.specs.Lists.{any_under};
 ghost use Rattle.lists.specs.Lent.{plain};

@@ -1,4 +1,6 @@
 // Several rivers in one pool: how many, and the claim that each shows the figures of its own calls, and that 17 and 18 alone depend on the others.
+#![tactic(auto)]
+
 ghost use Rattle.std.specs.Prelude.{◌≡◌};
 ghost use Rattle.model.specs.PoolClaim.{Sharing, OpenedLists};
 

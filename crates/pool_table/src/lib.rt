@@ -1,4 +1,6 @@
 // The table of a pool, which is lent as forty numbers, five for each of eight slots: a slot taken out and put in, and tests 17 and 18.
+#![tactic(auto)]
+
 ghost use Rattle.std.specs.Prelude.{◌≡◌, cond, ◌||◌, ◌<◌, ◌≤◌, set};
 ghost use Rattle.lists.specs.Lists.{any_below};
 ghost use Rattle.model.specs.Ranges.{most_rivers};

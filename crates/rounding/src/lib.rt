@@ -1,4 +1,6 @@
 // Rounding as document 01 rounds: to the nearest with a half going up, a fraction in parts of one whole, and down.
+#![tactic(auto)]
+
 ghost use Rattle.std.specs.Prelude.{◌≡◌, ◌+◌, ◌*◌, ◌^◌, ◌<◌, ◌≤◌, min};
 ghost use Rattle.rounding.specs.Nearest.{S, nearest, parts};
 

@@ -1,4 +1,6 @@
 // Is any of the river above the limit? The search looks only into blocks of sixteen segments whose highest figure is above it.
+#![tactic(auto)]
+
 ghost use Rattle.std.specs.Prelude.{◌≡◌, ◌||◌, ◌≤◌, ltb, length};
 ghost use Rattle.model.specs.Ranges.{◌to◌, outside, most_segments};
 ghost use Rattle.model.specs.Highest.{block_count};

@@ -1,5 +1,7 @@
 // The search over any list of calls: how many highest figures the longest river has, and the claim that a search of lists as they were left
 // tells whether a segment is above.
+#![tactic(auto)]
+
 ghost use Rattle.std.specs.Prelude.{◌≡◌};
 ghost use Rattle.model.specs.Ranges.{most_segments};
 ghost use Rattle.model.specs.Highest.{block_count};

@@ -1,4 +1,6 @@
 // One segment of a step, on values: its right sides, F and R, what it passes down, and its new figures.
+#![tactic(auto)]
+
 ghost use Rattle.std.specs.Prelude.{◌≡◌, ◌+◌, ◌*◌, ◌≤◌};
 ghost use Rattle.rounding.specs.Nearest.{S, nearest};
 ghost use Rattle.model.specs.Ranges.{highest};

@@ -1,4 +1,6 @@
 // One step of the river: the downward pass, then the upward pass with storage and sediment.
+#![tactic(auto)]
+
 ghost use Rattle.std.specs.Prelude.{◌≡◌, cond, ◌<◌, ◌≤◌, ltb, length, get_or};
 ghost use Rattle.model.specs.Sweep.{downward, finish, up};
 ghost use Rattle.model.specs.State.{pair_at, pairs_of, figures_of};

@@ -1,4 +1,6 @@
 // The types that the crates share. specs/Says gives what document 01 calls each of their values.
+#![tactic(auto)]
+
 ghost use Rattle.std.specs.Prelude.{◌≡◌, ◌<◌, ◌≤◌};
 ghost use Rattle.model.specs.Ranges.{most_segments};
 ghost use Rattle.model.specs.Equations.{sum_t, sum_v};

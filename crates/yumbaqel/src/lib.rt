@@ -3,6 +3,8 @@
 //
 // What a call hands out comes first: `number` is 0 or the number of the refusal, `kind` and `place` are its place, and then its values.
 // An accepted call writes all of them and the first entries of its lists; a refused one writes those three numbers and nothing else.
+#![tactic(auto)]
+
 ghost use Rattle.std.specs.Prelude.{◌≡◌, map, ◌*◌, length};
 ghost use Rattle.model.specs.Sheet.{dt, dx, row_starts, row_concentrations, gauge_count_at, record_field};
 ghost use Rattle.model.specs.Ranges.{gauge_section, band_section, most_segments, most_steps};

@@ -22,19 +22,19 @@ pub blocks-2-preserved : goal.blocks-2-preserved
 blocks-2-preserved c =
     let v = c.blocks-2.invariant in
     elim c.if-limit-highest.branch [
-      then-limit-highest+else-loop-i-test w ↦ (
+      | then-limit-highest+else-loop-i-test w ↦ (
         w.found-is ∙ w.loop-i.invariant.0,
         omega arith,
         omega arith,
         none-to _ (end-river w.loop-i.invariant.3 w.loop-i-test.false),
       )
-    | then-limit-highest+then-loop-i-test+then-from-i w ↦ (
+      | then-limit-highest+then-loop-i-test+then-from-i w ↦ (
         w.found-is ∙ w.loop-i.invariant.0,
         omega arith,
         omega arith,
         end-block w.loop-i.invariant.3 w.if-from-i.true,
       )
-    | else-limit-highest w ↦ (
+      | else-limit-highest w ↦ (
         w.found-is ∙ v.0,
         omega arith,
         omega arith,
