@@ -134,7 +134,7 @@ module _ {sheet : List ℕ} {n : ℕ} {begun : List ℕ} {from : State} {room : 
         is = on;
         ready = step.ready;
         working_is =
-            step.working_is ∙ ap (λ v. own_working sheet v state working) upstream ∙ ap (own_working sheet (rows_upstream sheet (suc state.steps)) state) g.working_is
+            step.working_passed ∙ ap (λ v. own_working sheet v state working) upstream ∙ ap (own_working sheet (rows_upstream sheet (suc state.steps)) state) g.working_is
             ∙ ap (λ (s : State). own_working sheet (rows_upstream sheet (suc s.steps)) s (working_ahead (rows_upstream sheet) sheet from room g.k)) g.is
             ∙ working-last (rows_upstream sheet) sheet from room g.k;
         sides_are = λ x q. step.sides_are.sides ∙ ap (sides_after sheet state.steps) (g.sides_are x q) ∙ sides-next sheet state.steps x ∙ ap (λ m. held_at sheet m x) (sym next);

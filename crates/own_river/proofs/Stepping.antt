@@ -19,7 +19,7 @@ use Rattle.model.specs.HalfStep.{Segment, loaded_segment}
 use Rattle.model.specs.Equations.{Figures}
 use Rattle.model.specs.Sweep.{Passed, downward, stepped}
 use Rattle.model.specs.State.{NumberSet, Columns, loaded_segments, write_segments, segment_at, pairs_of, State, state_lists, figures_at, figures_of, write_figures}
-use Rattle.model.specs.Calls.{Working, start_figures}
+use Rattle.model.specs.Calls.{Working, start_figures, step_left}
 use Rattle.model.specs.Runs.{LoadedFor, PairAsLoaded, sheet_pairs}
 use Rattle.model.specs.OwnRiver.{own_step, own_working}
 use Rattle.model.proofs.Ranges.{inside}
@@ -140,7 +140,7 @@ module _ (sheet : List ℕ) (n : ℕ) (sides sides₁ : List ℕ) (state : State
       SidesAre (where_other (flow_in_force sheet state.steps) (flow_in_force sheet (suc state.steps)) kept (sides_of sides₁)) sides₁ sides₂ →
       Stepped sheet n sides state working u' sides₂ (record { channel = c; storage = z; sediment = w; upstream = u'; steps = state.steps + 1 })
       (record { p = p; y = y })
-  unfolding own_step own_working write_figures figures_at
+  unfolding own_step own_working write_figures step_left figures_at
   own-step c z w p y sides₂ swept after =
       let pairs = pairs-as-loaded (sides_of sides₁).old lent in
       let s = swept.state_after in
@@ -150,7 +150,8 @@ module _ (sheet : List ℕ) (n : ℕ) (sides sides₁ : List ℕ) (state : State
       record {
         state_is = is;
         sides_are = record { sides = rw (← held.sides) after.sides; long = after.long ∙ held.long };
-        working_is = rw (d.of_p, d.of_y, pairs, ready.of_sheet.count);
+        working_is = rw (d.of_p, d.of_y, held.sides);
+        working_passed = rw (d.of_p, d.of_y, pairs, ready.of_sheet.count);
         ready = record {
           of_sheet = ready.of_sheet;
           in_force = rw (add-one state.steps) (force-after sheet n state.steps ready.of_sheet.count sides sides₁ ready.in_force held sides₂ after);
@@ -179,8 +180,8 @@ step-lengths {sheet} {n} {sides} {state = state} {working = working} {u' = u'} r
   channel = ap (λ (s : State). length s.channel) step.state_is ∙ written (λ x. x.c) state.channel (rw (← count) long.channel);
   storage = ap (λ (s : State). length s.storage) step.state_is ∙ written (λ x. x.z) state.storage (rw (← count) long.storage);
   sediment = ap (λ (s : State). length s.sediment) step.state_is ∙ written (λ x. x.w) state.sediment (rw (← count) long.sediment);
-  p = ap (λ (w : Working). length w.p) step.working_is ∙ passed (λ x. x.p) working.p ready.p_long;
-  y = ap (λ (w : Working). length w.y) step.working_is ∙ passed (λ x. x.y) working.y ready.y_long;
+  p = ap (λ (w : Working). length w.p) step.working_passed ∙ passed (λ x. x.p) working.p ready.p_long;
+  y = ap (λ (w : Working). length w.y) step.working_passed ∙ passed (λ x. x.y) working.y ready.y_long;
 }
   where
     count : n ≡ segment_count sheet
@@ -260,7 +261,8 @@ module _ (sheet : List ℕ) (n : ℕ) (sides sides₂ : List ℕ) (state : State
       let is : record { channel = c; storage = z; sediment = w; upstream = u; steps = 0 } ≡ write_figures fs u 0 state = rw (channel, storage, sediment) in
       record {
         state_is = is;
-        held = held;
+        sides_are = held.sides_are;
+        in_force = held.in_force;
         in_range = rw is (ranging sheet n (write_figures fs u 0 state) river.count
             (stands-written sheet fs u 0 state (starts-length sheet) (starts-most 0 (segment_count sheet) (λ i a b. start-most sheet river.passed 0 i (omega arith)))
             (in_range u most) (rw river.count at (none-shorter n (state_lists state) (long.channel, (long.storage, (long.sediment, tt)))))));

@@ -1,17 +1,17 @@
 -- What the next step of the sheet's own river asks, which it keeps: what tests 13 and 14 of a step look at.
-use Rattle.std.specs.Prelude.{◌≡◌, List, map, ℕ, ◌<◌, ◌≤◌, length}
+use Rattle.std.specs.Prelude.{◌≡◌, List, [], map, ℕ, ◌<◌, ◌≤◌, length}
 use Rattle.model.specs.Ranges.{highest}
 use Rattle.model.specs.Sheet.{segment_count}
 use Rattle.model.specs.Flow.{flow_in_force}
 use Rattle.model.specs.State.{loaded_segments, State, figures_at, write_figures}
 use Rattle.model.specs.Refusals.{passes, first}
 use Rattle.model.specs.Load.{river_tests}
-use Rattle.model.specs.Calls.{Working, start_figures}
+use Rattle.model.specs.Calls.{Working, start_figures, step_left}
 use Rattle.model.specs.Runs.{LoadedFor, SetFor}
 use Rattle.model.specs.OwnRiver.{own_step, own_working}
 use Rattle.terms.specs.Lent.{LongFigures}
 use Rattle.sweep_laws.specs.Accepted.{AtMost}
-use Rattle.own_river.specs.Sides.{width, sides_of, held_at, sides_after, SidesAre}
+use Rattle.own_river.specs.Sides.{width, sides_of, filled, kept, held_at, sides_for, sides_after, SidesAre}
 
 -- tests 1 to 12, 16 and 19 of the sheet pass, and its river has n segments
 pub record OfSheet (sheet : List ℕ) (n : ℕ) : Type 0 where
@@ -46,7 +46,8 @@ pub record Held (sheet : List ℕ) (n steps : ℕ) (sides sides' : List ℕ) : T
 -- what the start leaves: the state of a start; the sides of step 0
 pub record Begun (sheet : List ℕ) (n : ℕ) (sides : List ℕ) (state : State) (u : ℕ) (sides' : List ℕ) (state' : State) : Type 0 where
   pub state_is : state' ≡ write_figures (map start_figures (loaded_segments sheet 0)) u 0 state
-  pub held : Held sheet n 0 sides sides'
+  pub sides_are : SidesAre (kept (filled sheet (flow_in_force sheet 0) (sides_of sides))) sides sides'
+  pub in_force : InForce sheet n 0 sides'
   pub in_range : InRange n state'
 
 -- what the next step leaves: the state one step on; the sides; in the working lists p and y of the downward pass, as a step call leaves them; and what
@@ -54,5 +55,6 @@ pub record Begun (sheet : List ℕ) (n : ℕ) (sides : List ℕ) (state : State)
 pub record Stepped (sheet : List ℕ) (n : ℕ) (sides : List ℕ) (state : State) (working : Working) (u' : ℕ) (sides' : List ℕ) (state' : State) (working' : Working) : Type 0 where
   pub state_is : state' ≡ own_step sheet u' state
   pub sides_are : SidesAre (sides_after sheet state.steps (sides_of sides)) sides sides'
-  pub working_is : working' ≡ own_working sheet u' state working
+  pub working_is : let x = sides_for sheet state.steps (sides_of sides) in working' ≡ (step_left n x.old x.new state [] working u').working
+  pub working_passed : working' ≡ own_working sheet u' state working
   pub ready : Ready sheet n sides' state' working'

@@ -197,7 +197,7 @@ pub ready-begun : {sheet : List ℕ} {n : ℕ} {sides sides' : List ℕ} {state 
 unfolding write_figures
 ready-begun {sheet} {n} {sides' = sides'} working river begun p y = record {
   of_sheet = river;
-  in_force = let none = ap (λ (s : State). s.steps) begun.state_is in rw none begun.held.in_force;
+  in_force = let none = ap (λ (s : State). s.steps) begun.state_is in rw none begun.in_force;
   in_range = begun.in_range;
   p_long = p;
   y_long = y;
