@@ -1,7 +1,7 @@
 -- The descent of the river: at every segment the cursor has what document 01 says of that segment, and so has the site.
 use mathlib.Core.Bool.{Bool, true, false, cond}
 use mathlib.Core.List.{List}
-use mathlib.Core.Path.{◌≡◌, refl, ap, subst, ◌∙◌}
+use mathlib.Core.Path.{◌≡◌, refl, sym, ap, subst, ◌∙◌}
 use Prim.Native.Nat.{ℕ, suc, ◌+◌, ◌-◌, ◌*◌, ◌^◌, ◌<◌, ◌≤◌}
 use native.Mathlib.Numerals.{add-one}
 use native.Mathlib.Omega.{arith}
@@ -13,7 +13,7 @@ use Rattle.model.specs.Sheet as Sheet
 use Rattle.model.specs.Sheet.{BandedReach, reach_count, reach_on, banded_on, banded_reaches, bands_on, total_segments, segment_count, along_river}
 use Rattle.model.specs.Flow.{no_reach, course_of, top_of, reach_at, bands_at, own_gain, gain, flow_at}
 use Rattle.model.specs.Bands.{hydraulics_at}
-use Rattle.model.specs.HalfStep.{Site, ad, natural, hydraulics_of, site_at}
+use Rattle.model.specs.HalfStep.{ad, natural, hydraulics_of, site_at}
 use Rattle.model.proofs.Along.{total, river-length, total-segments}
 use Rattle.terms.specs.Says.{reach_says, hydraulics_say}
 use Rattle.terms.specs.declared.Reach.{Reach}
@@ -23,7 +23,7 @@ use Rattle.bands.proofs.Banded.{HydraulicsWithin, standing-hydraulics, hydraulic
 use Rattle.sheet.proofs.Passed.{ReachWithin, Passed, passed}
 use Rattle.halfstep.specs.Ranges.{Fit, InRange, Lateral, most_gain}
 use Rattle.halfstep.specs.declared.Site as Held
-use Rattle.halfstep.specs.Site.{site_says}
+use Rattle.halfstep.specs.Site.{site_says, Fields}
 use Rattle.halfstep.proofs.Signed.{abs-sum, abs-gain}
 use Rattle.halfstep.proofs.Sites.{ad_le}
 use Rattle.course.specs.Segments.{Read, IsSegment}
@@ -258,6 +258,15 @@ module _ {sheet : List ℕ} {n : ℕ} (r : Read sheet n) where
   unfolding course_from
   last-at top i = rw (river-length, total-segments sheet, ← r.count, add-one)
 
+  -- its steps are the sheet's
+  step-dt : (top : ℕ) → (course_from sheet top).dt ≡ Sheet.dt sheet
+  unfolding course_from
+  step-dt top = refl
+
+  step-dx : (top : ℕ) → (course_from sheet top).dx ≡ Sheet.dx sheet
+  unfolding course_from
+  step-dx top = refl
+
   -- at the top: above the first segment "its own is used"
   pub stands-first : {top above : ℕ} {own : Reach} {table : Bands} {at : Cursor} → At sheet top 0 own at → Standing sheet 0 table →
       above ≡ ad (hydraulics_say at.hydraulics) → Stands sheet top 0 own table at above
@@ -283,18 +292,32 @@ module _ {sheet : List ℕ} {n : ℕ} (r : Read sheet n) where
       module _ {u time : ℕ} {site : Held.Site} (made : site_says site ≡ site_from here own above u (eqb (i + 1) n) time (Sheet.dx sheet)) (t : time ≡ Sheet.dt sheet)
           (under : u ≡ ad (hydraulics_say below.hydraulics)) where
         site-same : site_says site ≡ site_at (course_from sheet top) i
-        unfolding site_at course_from
-        site-same = made ∙ rw (s.at.reach, ← reach-at s.at, s.at.hydraulics, s.above_is, under, b.hydraulics, s.at.flow, last-at top i, t)
+        unfolding site_at
+        site-same =
+            let own = s.at.reach ∙ sym (reach-at s.at) in
+            let below-is : u ≡ ad (hydraulics_of (course_from sheet top) (cond (eqb (suc i) (length (course_from sheet top).river)) i (suc i))) =
+            under ∙ ap ad b.hydraulics ∙ ap (λ l. ad (hydraulics_of (course_from sheet top) (cond l i (suc i)))) (last-at top i) in
+            let time-is = t ∙ sym (step-dt top) in
+            made ∙ (λ j. record {
+              own = own j;
+              hydraulics = s.at.hydraulics j;
+              above = s.above_is j;
+              below = below-is j;
+              flow = s.at.flow j;
+              last = last-at top i j;
+              dt = time-is j;
+              dx = sym (step-dx top) j;
+            })
 
         pub stood : IsSegment (course_from sheet top) i site
         stood = record {
           same = site-same;
-          fields = rw (made, under, t) (record {
-            ranges = rw s.at.reach (in_range (reach-within here.number s.at.known));
-            fit = rw s.at.hydraulics (fit_at s.at);
-            steps = record { time = known.dt.high; length_low = known.dx.low; length = known.dx.high };
+          fields = subst Fields (sym made) (record {
+            ranges = subst InRange (sym s.at.reach) (in_range (reach-within here.number s.at.known));
+            fit = subst Fit (sym s.at.hydraulics) (fit_at s.at);
+            steps = rw t (record { time = known.dt.high; length_low = known.dx.low; length = known.dx.high });
             above = s.above_most;
-            below = rw b.hydraulics (ad_le (fit-below (eqb (i + 1) n) refl));
+            below = rw under (subst (λ x. ad x ≤ 10 ^ 12) (sym b.hydraulics) (ad_le (fit-below (eqb (i + 1) n) refl)));
           });
         }
 

@@ -1,4 +1,6 @@
 // The segments of a sheet that its own tests pass, one after another down the river, and tests 10 to 12 with each of its flows.
+#![tactic(auto)]
+
 ghost use Rattle.std.specs.Prelude.{◌≡◌, ◌≤◌};
 ghost use Rattle.model.specs.Sheet.{flow_row_count};
 ghost use Rattle.model.specs.Flow.{course_of};
