@@ -1,8 +1,10 @@
 // Turns 100,000 fractions into parts of one whole and prints some of the figures, and a digest of all. Denominators of five kinds meet
 // numerators of four, each pair 5,000 times. What is printed was stored before the routine was made lighter (document 02, 4).
+#![tactic(auto)]
+
 ghost use Rattle.std.specs.Prelude.{◌≡◌, ◌+◌, ◌-◌, ◌*◌, ◌^◌, ◌<◌, ◌≤◌};
 
-use libc::STDOUT_FILENO;
+use std::io;
 
 const COUNT: u32 = 100000;
 
@@ -138,31 +140,21 @@ fn numerator(kind: u32, k: u32, d: u64, x: u64) -> u64
         }
         1 => x % d,
         2 => beside(at_a_half(d, x / 3), x),
-        _ => beside(std::num::wrapping_add_u64(d, d / HALF_PARTS), x),
+        _ => beside(d.wrapping_add(d / HALF_PARTS), x),
     }
 }
 
 // One figure more. A single figure that differs leads to another digest.
 fn digested(digest: u64, figure: u64) -> u64 {
-    next(std::num::wrapping_add_u64(digest, figure))
-}
-
-fn number(n: u64) {
-    io::print_decimal(STDOUT_FILENO, n);
-    io::write_all(STDOUT_FILENO, b" ");
+    next(digest.wrapping_add(figure))
 }
 
 // How many fractions came before, the fraction, its figure, and the digest.
-fn line(before: u32, n: u64, d: u64, figure: u32, digest: u64) {
-    number(before as u64);
-    number(n);
-    number(d);
-    number(figure as u64);
-    io::print_hex(STDOUT_FILENO, digest, 16);
-    io::write_all(STDOUT_FILENO, b"\n");
+fn line(rt: &impl Print, before: u32, n: u64, d: u64, figure: u32, digest: u64) -> io::Result<()> {
+    println!(rt; "{before} {n} {d} {figure} {digest:016x}")
 }
 
-fn main() {
+fn main(rt: HostRuntime) -> io::Result<()> {
     let mut drawn = SEED;
     let mut digest = SEED;
     let mut i: u32 = 0;
@@ -175,12 +167,9 @@ fn main() {
         let figure = rounding::parts(n, d);
         digest = digested(digested(digested(digest, n), d), figure as u64);
         if i % EVERY == 0 {
-            line(i, n, d, figure, digest);
+            line(&rt, i, n, d, figure, digest)?;
         }
         i += 1;
     }
-    number(COUNT as u64);
-    io::write_all(STDOUT_FILENO, b"fractions, digest ");
-    io::print_hex(STDOUT_FILENO, digest, 16);
-    io::write_all(STDOUT_FILENO, b"\n");
+    println!(rt; "{COUNT} fractions, digest {digest:016x}")
 }
