@@ -1,9 +1,14 @@
 // The text of program `river`: lines gathered in a lent buffer, which is written to standard output when a line might no longer fit.
+#![tactic(auto)]
+
 ghost use Rattle.std.specs.Prelude.{◌≡◌, false, not, ◌||◌, [], ◌∷◌};
 ghost use Rattle.output.specs.Text.{ended, heading, line, done, refused};
 ghost use Rattle.output.specs.Outcomes.{Put, due, Flushed, Room, PutLine};
 
-use libc::STDOUT_FILENO;
+// Standard output and standard error, as descriptors.
+const STDOUT: i32 = 1;
+
+const STDERR: i32 = 2;
 
 // The most bytes of a line: five numbers of 20 digits, and the byte behind each.
 pub const LINE: usize = 5 * (20 + 1);
@@ -21,6 +26,15 @@ pub struct Output {
 struct Write {
     descriptor: i32,
     bytes: usize,
+}
+
+// Writes all of these bytes to a descriptor. One of no bytes makes no call of the system.
+fn write_to(rt: &HostRuntime, descriptor: i32, bytes: &[u8]) -> bool {
+    match descriptor {
+        STDOUT => rt.stdout().write_all(bytes).is_ok(),
+        STDERR => rt.stderr().write_all(bytes).is_ok(),
+        _ => false,
+    }
 }
 
 impl Output {
@@ -49,23 +63,23 @@ impl Output {
     {
         let lost = self.failed | (length < self.used);
         Write {
-            descriptor: STDOUT_FILENO,
+            descriptor: STDOUT,
             bytes: if lost { 0 } else { self.used },
         }
     }
 
     // Makes the write that is due; one of no bytes makes no call of the system.
-    pub fn flush(self, buffer: &[u8]) -> Output
+    pub fn flush(self, rt: &HostRuntime, buffer: &[u8]) -> Output
         ensures { Flushed self buffer.now result }
     {
         let due = self.due(buffer.len());
         let bytes = due.bytes;
-        let written = io::write_all(due.descriptor, &buffer[..bytes]);
+        let written = write_to(rt, due.descriptor, &buffer[..bytes]);
         self.after_write(written & (bytes == self.used))
     }
 
     // Writes the bytes used where a line might not fit behind them.
-    fn room(self, buffer: &[u8]) -> Output
+    fn room(self, rt: &HostRuntime, buffer: &[u8]) -> Output
         ensures { Room self buffer.now result }
     {
         let used = self.used;
@@ -74,7 +88,7 @@ impl Output {
                 return self;
             }
         }
-        self.flush(buffer)
+        self.flush(rt, buffer)
     }
 
     fn put_byte(self, buffer: &mut [u8], byte: u8) -> Output
@@ -113,16 +127,17 @@ impl Output {
         at.put_byte(&mut buffer[..], end)
     }
 
-    pub fn put_heading(self, buffer: &mut [u8]) -> Output
+    pub fn put_heading(self, rt: &HostRuntime, buffer: &mut [u8]) -> Output
         ensures { PutLine heading self buffer.old result buffer.new }
     {
-        let at = self.room(&buffer[..]);
+        let at = self.room(rt, &buffer[..]);
         at.put_text(&mut buffer[..], b"step segment channel storage sediment\n")
     }
 
     // Step, gauge's segment, C, Z, Kd × W.
     pub fn put_line(
         self,
+        rt: &HostRuntime,
         buffer: &mut [u8],
         step: u32,
         segment: u32,
@@ -132,7 +147,7 @@ impl Output {
     ) -> Output
         ensures { PutLine (line step segment channel storage sediment) self buffer.old result buffer.new }
     {
-        let at = self.room(&buffer[..]);
+        let at = self.room(rt, &buffer[..]);
         let at = at.put_number(&mut buffer[..], step as u64, b' ');
         let at = at.put_number(&mut buffer[..], segment as u64, b' ');
         let at = at.put_number(&mut buffer[..], channel as u64, b' ');
@@ -140,18 +155,18 @@ impl Output {
         at.put_number(&mut buffer[..], sediment, b'\n')
     }
 
-    pub fn put_done(self, buffer: &mut [u8], steps: u32) -> Output
+    pub fn put_done(self, rt: &HostRuntime, buffer: &mut [u8], steps: u32) -> Output
         ensures { PutLine (done steps) self buffer.old result buffer.new }
     {
-        let at = self.room(&buffer[..]);
+        let at = self.room(rt, &buffer[..]);
         let at = at.put_text(&mut buffer[..], b"done ");
         at.put_number(&mut buffer[..], steps as u64, b'\n')
     }
 
-    pub fn put_refused(self, buffer: &mut [u8], number: u32) -> Output
+    pub fn put_refused(self, rt: &HostRuntime, buffer: &mut [u8], number: u32) -> Output
         ensures { PutLine (refused number) self buffer.old result buffer.new }
     {
-        let at = self.room(&buffer[..]);
+        let at = self.room(rt, &buffer[..]);
         let at = at.put_text(&mut buffer[..], b"refused ");
         at.put_number(&mut buffer[..], number as u64, b'\n')
     }

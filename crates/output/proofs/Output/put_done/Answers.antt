@@ -1,0 +1,11 @@
+-- `Output::put_done` meets its contract: a word and a number.
+use native.Mathlib.Omega.{arith}
+use Rattle.output.specs.Text.{done}
+use Rattle.output.proofs.Putting.{put_then, put-line}
+use Rattle.output.proofs.Lengths.{length-done}
+use Rattle.output.proofs.Output.put_done.Goals as goal
+
+pub returns : goal.returns
+unfolding done
+returns c =
+    put-line (length-done _ (omega (arith, c.ranges.steps))) c.room-at.ensures (put_then c.put_text-at.ensures c.put_number.ensures)

@@ -1,0 +1,22 @@
+-- `Output::put_line` meets its contract: five numbers of at most 20 digits, one behind another.
+use native.Mathlib.Omega.{arith}
+use Rattle.output.specs.Text.{line}
+use Rattle.output.proofs.Putting.{put_then, put-line}
+use Rattle.output.proofs.Lengths.{length-line}
+use Rattle.output.proofs.Output.put_line.Goals as goal
+
+pub returns : goal.returns
+unfolding line
+returns c =
+    let fits = c.ranges in
+    let two = put_then c.put_number-at.ensures c.put_number-at-2.ensures in
+    let four = put_then (put_then two c.put_number-at-3.ensures) c.put_number-at-4.ensures in
+    put-line
+    (length-line _ _ _ _ _
+    (omega (arith, fits.step))
+    (omega (arith, fits.segment))
+    (omega (arith, fits.channel))
+    (omega (arith, fits.storage))
+    (omega (arith, fits.sediment)))
+    c.room-at.ensures
+    (put_then four c.put_number.ensures)

@@ -1,0 +1,12 @@
+-- `Output::put_number` meets its contract: the digits, and the byte behind them.
+use mathlib.Core.Path.{◌∙◌}
+use Rattle.output.specs.Text.{ended}
+use Rattle.output.proofs.Putting.{put_then}
+use Rattle.output.proofs.Decimal.{fewest-decimal}
+use Rattle.output.proofs.Output.put_number.Goals as goal
+
+pub returns : goal.returns
+unfolding ended
+returns c =
+    let d = c.decimal-count.ensures in
+    put_then (rw (d.digits ∙ fewest-decimal _ _ d.len) at c.put_text-at.ensures) c.put_byte.ensures
