@@ -1,4 +1,6 @@
 // The lines of one step of the listing, read from the sheet and the state.
+#![tactic(auto)]
+
 ghost use Rattle.lists.specs.Lent.{plain};
 ghost use Rattle.terms.specs.Lent.{state};
 ghost use Rattle.output.specs.Listing.{step_lines, lines_at};
@@ -18,6 +20,7 @@ fn put_gauge(
     storage: &[u32],
     sediment: &[u32],
     out: Output,
+    rt: &HostRuntime,
     buffer: &mut [u8],
 ) -> Output
     requires { HasSegment segment kd.now channel.now storage.now sediment.now }
@@ -26,6 +29,7 @@ fn put_gauge(
     let i = segment as usize - 1;
     let sorbed = rounding::product(kd[i], sediment[i]);
     out.put_line(
+        rt,
         &mut buffer[..],
         step,
         segment,
@@ -44,6 +48,7 @@ fn put_gauges(
     storage: &[u32],
     sediment: &[u32],
     out: Output,
+    rt: &HostRuntime,
     buffer: &mut [u8],
 ) -> Output
     requires { Shown sheet.now kd.now channel.now storage.now sediment.now }
@@ -61,6 +66,7 @@ fn put_gauges(
             storage,
             sediment,
             at,
+            rt,
             &mut buffer[..],
         );
         j += 1;
@@ -77,6 +83,7 @@ pub fn put_lines(
     storage: &[u32],
     sediment: &[u32],
     out: Output,
+    rt: &HostRuntime,
     buffer: &mut [u8],
 ) -> Output
     requires { Shown sheet.now kd.now channel.now storage.now sediment.now }
@@ -92,6 +99,7 @@ pub fn put_lines(
             storage,
             sediment,
             out,
+            rt,
             &mut buffer[..],
         );
     }

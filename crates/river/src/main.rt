@@ -1,4 +1,6 @@
 // Program river: reads a river sheet on standard input and prints its listing, or `refused` and the number of the refusal.
+#![tactic(auto)]
+
 ghost use Rattle.std.specs.Prelude.{◌≡◌, cond, ◌≤◌, length};
 ghost use Rattle.lists.specs.Lent.{plain};
 ghost use Rattle.model.specs.Refusals.{passes, first};
@@ -10,14 +12,15 @@ ghost use Rattle.output.specs.Outcomes.{longest};
 ghost use Rattle.river.specs.Printed.{Ran, PutSheet, Printed};
 
 use assembly::river_test;
-use libc::STDIN_FILENO;
 use listing::put_lines;
 use otis::River;
 use output::Output;
 use own_river::rows::upstream_at;
 use own_river::sides::{PARTS, kd};
+use reading::read_full;
 use sheet::LONGEST;
 use sheet::fields::{segment_count, steps};
+use std::io;
 use terms::Finding;
 
 // One byte more than the longest sheet has shows that bytes follow its last section.
@@ -26,6 +29,9 @@ const BYTES: usize = LONGEST + 1;
 // The entries of a list: one for each of the most segments, and a cache line's sixteen more. A step reads some thirty lists side by side, and
 // if they stood a multiple of 4,096 bytes apart, they would drive one another out of the cache.
 const ROOM: usize = River::SEGMENTS as usize + 16;
+
+// The bytes of the text that are gathered for one write.
+const GATHERED: usize = 65536;
 
 // The steps that are still due: none once a write has failed, since nothing more is printed.
 fn due(out: Output, left: u32) -> u32
@@ -46,6 +52,7 @@ fn run(
     p: &mut [u64],
     y: &mut [u64],
     out: Output,
+    rt: &HostRuntime,
     buffer: &mut [u8],
 ) -> Output
     requires { Ready sheet.now n sides.old (state plain channel.old storage.old sediment.old river.upstream river.steps) (working plain p.old y.old)
@@ -79,15 +86,16 @@ fn run(
             &storage[..],
             &sediment[..],
             out,
+            rt,
             &mut buffer[..],
         );
         left = due(out, left - 1);
     }
-    out.put_done(&mut buffer[..], river.steps)
+    out.put_done(rt, &mut buffer[..], river.steps)
 }
 
 // The listing of an accepted sheet: its river is started and run.
-fn put_listing(sheet: &[u8], buffer: &mut [u8]) -> Output
+fn put_listing(rt: &HostRuntime, sheet: &[u8], buffer: &mut [u8]) -> Output
     requires { first (river_tests sheet.now) ≡ passes }
     ensures { PutSheet sheet.now buffer.old result buffer.new }
 {
@@ -107,7 +115,7 @@ fn put_listing(sheet: &[u8], buffer: &mut [u8]) -> Output
         &mut sediment,
         upstream_at(sheet, 0),
     );
-    let out = Output::new().put_heading(&mut buffer[..]);
+    let out = Output::new().put_heading(rt, &mut buffer[..]);
     run(
         river,
         sheet,
@@ -119,33 +127,35 @@ fn put_listing(sheet: &[u8], buffer: &mut [u8]) -> Output
         &mut p,
         &mut y,
         out,
+        rt,
         &mut buffer[..],
     )
 }
 
 // What is put of these bytes: "A refused sheet prints only `refused` and its number."
-fn put_sheet(sheet: &[u8], buffer: &mut [u8]) -> Output
+fn put_sheet(rt: &HostRuntime, sheet: &[u8], buffer: &mut [u8]) -> Output
     ensures { PutSheet sheet.now buffer.old result buffer.new }
 {
     let found = river_test(sheet);
     match found {
-        Finding::Passes => put_listing(sheet, &mut buffer[..]),
-        Finding::Fails(number, _) => Output::new().put_refused(&mut buffer[..], number),
+        Finding::Passes => put_listing(rt, sheet, &mut buffer[..]),
+        Finding::Fails(number, _) => Output::new().put_refused(rt, &mut buffer[..], number),
     }
 }
 
 // And printed, with the last write made.
-fn print(sheet: &[u8], buffer: &mut [u8]) -> Output
+fn print(rt: &HostRuntime, sheet: &[u8], buffer: &mut [u8]) -> Output
     requires { longest ≤ length buffer.old }
     ensures { Printed sheet.now buffer.old result buffer.new }
 {
-    let out = put_sheet(sheet, &mut buffer[..]);
-    out.flush(&buffer[..])
+    let out = put_sheet(rt, sheet, &mut buffer[..]);
+    out.flush(rt, &buffer[..])
 }
 
-fn main() {
+fn main(rt: HostRuntime) -> io::Result<()> {
     let mut bytes = [0u8; BYTES];
-    let got = io::read_full(STDIN_FILENO, &mut bytes);
-    let mut buffer = io::large_buffer();
-    print(&bytes[..got], &mut buffer);
+    let got = read_full(&mut rt.stdin(), &mut bytes)?;
+    let mut buffer = [0u8; GATHERED];
+    print(&rt, &bytes[..got], &mut buffer);
+    Ok(())
 }
