@@ -1,4 +1,6 @@
 // The fourteen lists of a loading: what an accepted loading writes.
+#![tactic(auto)]
+
 ghost use Rattle.std.specs.Prelude.{◌≡◌};
 ghost use Rattle.model.specs.Flow.{course_of};
 ghost use Rattle.model.specs.State.{loaded_segments, write_segments};
