@@ -4,7 +4,6 @@ use Rattle.model.specs.Load as Document
 use Rattle.terms.specs.Says.{place_says}
 use Rattle.assembly.specs.declared.Loaded.{Loaded}
 use Rattle.assembly.specs.declared.Load.{Load}
-use Rattle.assembly.specs.declared.Load.TheVariants as Load
 
 abbrev pub loaded_says : Loaded → Document.Loaded
 loaded_says r = record {

@@ -1,4 +1,6 @@
 // A loading over plain lists: any bytes in, half-step numbers or a numbered refusal out. Of the list of reach records it is handed the length.
+#![tactic(auto)]
+
 ghost use Rattle.std.specs.Prelude.{◌≡◌, ◌∷◌, map, length, get_or, take};
 ghost use Rattle.model.specs.State.{Columns, column_lists};
 ghost use Rattle.model.specs.Refusals.{passes, test, first, answer};
