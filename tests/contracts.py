@@ -11,7 +11,8 @@ from typing import NamedTuple
 
 ASKING = ("requires", "ghost")      # what a caller has to see to: a fact, or a value that no code holds
 CLAUSE = re.compile(rf"\b({'|'.join(ASKING)}|ensures)(?:\s+\w+)?\s*$")
-RESULT = re.compile(r"\s*(?:->\s*(?:&(?:'\w+\s+)?(?:mut\s+)?)?(?:[\w:]+(?:<[^<>]*>)?|\[[^\]]*\]|\([^)]*\))\s*)?")
+RESULT = re.compile(r"\s*(?:->\s*(?:&(?:'\w+\s+)?(?:mut\s+)?)?(?:[\w:]+(?:<(?:[^<>]|<[^<>]*>)*>)?|\[[^\]]*\]|\([^)]*\))\s*)?")
+INNER = re.compile(r"\s*#!\[[^\]]*\]")        # an attribute of the whole file
 ITEM = re.compile(r"\s*(?P<attributes>(?:#\[[^\]]*\]\s*)*)(?P<public>pub(?:\s*\([^)]*\))?\s+)?"
                   r"(?:const\s+(?=fn\b|extern\b))?(?:extern\s*\"\w*\"\s*(?=fn\b))?"
                   r"(?P<kind>ghost\s+use|use|mod|impl|fn|struct|enum|const|type)\b\s*(?P<name>\w*)")
@@ -29,7 +30,7 @@ class Function(NamedTuple):
 
     path: str
     file: str
-    exported: bool                  # marked #[no_mangle]
+    exported: bool                  # marked #[unsafe(no_mangle)]
     exposed: bool                   # another crate can call it
     asks: list[str]
     ensures: list[str]
@@ -83,6 +84,8 @@ class Module:
     def items(self, at: int = 0, end: int | None = None, within: tuple[str, ...] = ()) -> Iterator[Function]:
         """The functions from here to there; `within` is the type whose `impl` they stand in."""
         end = len(self.code) if end is None else end
+        while inner := INNER.match(self.code, at):
+            at = inner.end()
         while self.code[at:end].strip():
             item = ITEM.match(self.code, at)
             if item is None or item.end() > end:

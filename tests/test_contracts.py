@@ -67,7 +67,7 @@ def stated_claims(files: Files) -> set[Claim]:
 
 def known_claims(function: Function, files: Files) -> set[Claim]:
     """Those that the function's file uses."""
-    used = re.findall(r"^ghost use Rattle·(?:forecast_)?model\.specs\.(\w*Claim)\.\{([^}]*)\};",
+    used = re.findall(r"^ghost use Rattle\.(?:forecast_)?model\.specs\.(\w*Claim)\.\{([^}]*)\};",
                       without_comments(files[function.file]), re.M)
     return {Claim(module, name.strip()) for module, names in used for name in names.split(",")}
 
@@ -80,8 +80,7 @@ def named_claims(function: Function, files: Files) -> set[Claim]:
 
 def carried_claims(function: Function, files: Files) -> set[Claim]:
     """Those that stand by themselves in one of them."""
-    alone = {found[1] for text in function.ensures if (found := re.fullmatch(r"λ \w+\. ⌜ (\w+) ⌝", text))}
-    return {claim for claim in known_claims(function, files) if claim.name in alone}
+    return {claim for claim in known_claims(function, files) if claim.name in function.ensures}
 
 
 # The rules
@@ -174,7 +173,7 @@ def source(crate: str, module: str = "lib") -> str:
     return f"crates/{crate}/src/{module}.rt"
 
 
-def asking(path: str, what: str, clause: str = "requires { ⌜ ⊥ ⌝ }", module: str = "lib") -> Edit:
+def asking(path: str, what: str, clause: str = "requires { ⊥ }", module: str = "lib") -> Edit:
     """A clause in front of a function's `ensures`; `what` is what the function is called."""
     name = path.split("::")[-1]
     return Edit(f"{path} with {clause}", source(path.split("::")[0], module), rf"(\bfn {name}\b[^{{]*?)(\n +ensures )",
@@ -189,7 +188,7 @@ def silent(path: str, what: str, module: str = "lib") -> Edit:
 
 
 def without_claim(crate: str, claim: str, what: str) -> Edit:
-    return Edit(f"{crate} without {claim}", source(crate), rf"\n +ensures {{ λ r\. ⌜ {claim} ⌝ }}", "",
+    return Edit(f"{crate} without {claim}", source(crate), rf"\n +ensures \w+ {{ {claim} }}", "",
                 f"{claim} stands in the `ensures` of no {what}")
 
 
@@ -201,9 +200,9 @@ WRONG = (
                                          "own_river_claim::most_steps", "forecast_claim::most_horizon")),
     asking("distance_claim::most_off", CARRIER, "ghost { ⊥ }"),
     asking("yumbaqel::yumbaqel_step", EXPORT),
-    asking("yumbaqel::yumbaqel_load", EXPORT, "requires nothing { ⌜ ⊥ ⌝ }"),
-    Edit("an export that asks behind its `ensures`", source(LIBRARY), r"(fn yumbaqel_version.*? ⌝ })",
-         r"\1 requires { ⌜ ⊥ ⌝ }", f"yumbaqel_version{EXPORT} asks"),
+    asking("yumbaqel::yumbaqel_load", EXPORT, "requires nothing { ⊥ }"),
+    Edit("an export that asks behind its `ensures`", source(LIBRARY), r"(fn yumbaqel_version[^{]*{[^}]*})",
+         r"\1 requires { ⊥ }", f"yumbaqel_version{EXPORT} asks"),
     silent("yumbaqel::yumbaqel_version", EXPORT),
     silent("yumbaqel::yumbaqel_search", EXPORT),
     asking("otis::River::step", CALL),
@@ -236,19 +235,19 @@ WRONG = (
          "Demand4 stands in the `ensures` of no carrier"),
     Edit("a claim in parts that nobody carries", f"{SPECS}Claim.antt", r"\Z", "\npub record Demand5 : Type 0 where\n",
          "Demand5 stands in the `ensures` of no carrier"),
-    Edit("a claim under a condition", source(LIBRARY), r"⌜ Demand3 ⌝", "⌜ ⊥ → Demand3 ⌝", "Demand3 stands"),
-    Edit("a claim in a comment", source(LIBRARY), r"(\n +)(ensures { λ r\. ⌜ Sharing ⌝ })", r"\1// \2",
+    Edit("a claim under a condition", source(LIBRARY), r"{ Demand3 }", "{ ⊥ → Demand3 }", "Demand3 stands"),
+    Edit("a claim in a comment", source(LIBRARY), r"(\n +)(ensures sharing { Sharing })", r"\1// \2",
          "Sharing stands"),
-    Edit("another statement of a claim's name", source(LIBRARY), r"Rattle·model\.specs\.PoolClaim",
-         "Rattle·answers.specs.Answers", "Sharing stands"),
-    Edit("a clause of no known kind", source(LIBRARY), r"(\n +)(ensures { λ r\. ⌜ Sharing ⌝ })",
-         r"\1asks { ⌜ ⊥ ⌝ }\1\2", UNREADABLE),
+    Edit("another statement of a claim's name", source(LIBRARY), r"Rattle\.model\.specs\.PoolClaim",
+         "Rattle.answers.specs.Answers", "Sharing stands"),
+    Edit("a clause of no known kind", source(LIBRARY), r"(\n +)(ensures sharing { Sharing })",
+         r"\1asks { ⊥ }\1\2", UNREADABLE),
 )
 HARMLESS = (
-    asking("yumbaqel::yumbaqel_step", EXPORT, "// requires { ⌜ ⊥ ⌝ }"),
-    asking("distance_claim::most_off", CARRIER, "/* requires\n{ ⌜ ⊥ ⌝ } */"),
+    asking("yumbaqel::yumbaqel_step", EXPORT, "// requires { ⊥ }"),
+    asking("distance_claim::most_off", CARRIER, "/* requires\n{ ⊥ } */"),
     asking("pool_table::segments_if_open", EXPOSED),        # which no other crate can call
-    Edit("a label", source(LIBRARY), r"ensures (?={ λ r\. ⌜ Sharing ⌝)", "ensures sharing ", ""),
+    Edit("another name of a clause", source(LIBRARY), r"ensures sharing (?={ Sharing })", "ensures the_rivers ", ""),
 )
 
 
