@@ -2,7 +2,7 @@
 
     python3 tests/test_tools.py [PATH_TO_RIVER] [--full]
 
-Without a path target/bin/river is run where it is there; what needs the program is else left out, and said so.
+Without a path crates/river/out/river is run where it is there; what needs the program is else left out, and said so.
 --full also runs the program over the whole examples and compares with their stored listings and pictures.
 The exit status is 0 only when every check holds.
 """
@@ -51,7 +51,7 @@ EXAMPLES = ROOT / "examples"
 SHEET, CURVES, PROVE, GATE_COST = (ROOT / "tools" / name
                                    for name in ("sheet.py", "curves.py", "prove.py", "gate_cost.py"))
 FLOAT_RIVER = ROOT / "tests" / "float_river.py"
-RIVER = ROOT / "target" / "bin" / "river"
+RIVER = ROOT / "crates" / "river" / "out" / "river"
 MOST_SHOWN = 10
 DRAFTS = uvas.EXAMPLES | snowmelt.EXAMPLES | weir.EXAMPLES      # what the examples must hold
 SVG = "{http://www.w3.org/2000/svg}"
@@ -1143,7 +1143,7 @@ PICTURE = re.compile(r"!\[[^]]*\]\(\.\./(examples/(.*)\.svg)\)\n\n    (.*)\n")
 def run_shown(line: str, example: str, folder: Path, program: bool) -> str:
     """Runs a document's command; what it prints.  Without the program, the example's stored listing stands in."""
     if not program:
-        line = line.replace(f"target/bin/river < examples/{example}.otr", f"cat examples/{example}.listing")
+        line = line.replace(f"crates/river/out/river < examples/{example}.otr", f"cat examples/{example}.listing")
     ran = subprocess.run(["bash", "-c", f"set -o pipefail; {line}"], cwd=folder, capture_output=True, timeout=120,
                          env=os.environ | {"PYTHONIOENCODING": "utf-8"})
     return (ran.stdout if ran.returncode == 0 else ran.stderr).decode()
@@ -1159,7 +1159,7 @@ def document_checks(full: bool) -> Iterator[Check]:
     proving = "python3 tools/prove.py river && "
     with tempfile.TemporaryDirectory() as name:
         folder = Path(name)
-        for each in ("examples", "tools", "target"):
+        for each in ("examples", "tools", "crates"):
             (folder / each).symlink_to(ROOT / each)         # a command names files from the repository's top
         shown_there = {}
         for picture, example, line in found:
@@ -1188,26 +1188,26 @@ def document_checks(full: bool) -> Iterator[Check]:
 # Proofs
 
 CRATES = """\
-# one line for each crate
-a:
-b: a io libc   # two of them are the kit's
-c: b
+# one line for each crate; two crates of the kit are among what they name
 d: a c
+c: b
+a:
+b staticlib: a io libc
 """
-SLOWLY = ": > target/log/a.out\nsleep 1.2\n"
 PROVED = """\
-echo 'fn a::f: proved'
-echo 'rt: a proved (1 s)'
-: > target/log/b.out
-echo 'rt: b is up to date'
-echo 'rt: c proved (2 s)' | tee target/log/c.out
-echo 'rt: c ran, and wrote what it should (0 s)'
-echo 'rt: ok, 3 crates proved'
+case $1-$crate in
+lib-a) echo 'fn a::f: proved'; echo 'logic=proved functions=1';;
+lib-b) echo 'rt: chose --jobs 2 for b';;
+run-c) echo 'logic=proved functions=2' >&2; echo 'rt: running out/c; to give it other input' >&2; cat; echo 'refused 1'; exit 4;;
+lib-d) echo 'logic=proved functions=3';;
+esac
 """
-FAILED = "\n".join(["echo 'rt: a proved (1 s)'", *(f"echo 'line {at} of b'" for at in range(1, 31)),
-                    "echo 'rt: b NOT PROVED (exit 1, 2 s)'", "echo 'fn c::f: proved'", "echo 'rt: c proved (2 s)'",
-                    "echo 'rt: FAILED: b'", "echo 'the last word' >&2", "exit 3", ""])
-ENDLESS = "sleep 60 &\necho $! > sleeping\nsleep 0.2\necho 'rt: a proved (1 s)'\nwait\n"
+SLOWLY = "sleep 1.2\n"
+FAILED = "\n".join(["case $crate in", "a) echo 'logic=proved functions=1';;", "b)",
+                    *(f"echo 'line {at} of b'" for at in range(1, 31)), "echo 'logic=not-proved'",
+                    "echo 'the last word' >&2", "exit 3;;", "e) echo 'logic=proved functions=1';;", "esac", ""])
+ENDLESS = ("case $crate in\na) echo 'logic=proved functions=1';;\nb) sleep 60 &\necho $! > ../../sleeping\nsleep 0.2\n"
+           "wait;;\nesac\n")
 
 
 class Workshop:
@@ -1216,19 +1216,26 @@ class Workshop:
     def __init__(self, folder: Path) -> None:
         self.folder = folder
         (folder / "bin").mkdir()
-        (folder / "target" / "log").mkdir(parents=True)
+        for name in "abcde":
+            (folder / "crates" / name / "src").mkdir(parents=True)
+            (folder / "crates" / name / "src" / ("main.rt" if name == "c" else "lib.rt")).touch()
         (folder / "crates.txt").write_text(CRATES)
         self.options = dict(cwd=folder, env=os.environ | {"PATH": f"{folder / 'bin'}:{os.environ['PATH']}"})
 
     def rt(self, script: str) -> None:
-        (self.folder / "bin" / "rt").write_text(f'#!/bin/sh\necho "$@" > asked\n{script}')
-        (self.folder / "bin" / "rt").chmod(0o755)
+        path = self.folder / "bin" / "rt"
+        path.write_text(f'#!/bin/sh\ncrate=$(basename "$PWD")\necho "$@ in $crate" >> ../../asked\n{script}')
+        path.chmod(0o755)
+        (self.folder / "asked").unlink(missing_ok=True)
+
+    def asked(self) -> list[str]:
+        return (self.folder / "asked").read_text().splitlines()
 
     def prove(self, *names: str) -> tuple[int, list[str]]:
-        """The exit status, and the lines shown without the seconds so far, which vary."""
+        """The exit status, and the lines shown without the seconds, which vary."""
         ran = tool(PROVE, *names, **self.options)
         text = (ran.stdout + ran.stderr).decode()
-        return ran.returncode, re.sub(r"\d+ s(?= so far)|(?<=after )\d+ s", "T", text).splitlines()
+        return ran.returncode, re.sub(r"\d+ s(?= so far|\))|(?<=after )\d+ s", "T", text).splitlines()
 
     def at_a_terminal(self, *names: str) -> str:
         """What a terminal gets to show."""
@@ -1254,7 +1261,7 @@ class Workshop:
             sleeper = int((self.folder / "sleeping").read_text())
             (self.folder / "sleeping").unlink()
             how(child)
-            status = child.wait(timeout=10)
+            status = child.wait(timeout=30)
         return status, not until(lambda: ended(sleeper))
 
 
@@ -1275,7 +1282,7 @@ def until(holds: Callable[[], object]) -> bool:
     return False
 
 
-HEAD = "3 crates, each proved if it has changed since it last was; target/prove.log has all that rt prints"
+HEAD = "3 crates, each proved if it has changed since it last was; prove.log has all that rt prints"
 
 
 def proof_checks() -> Iterator[Check]:
@@ -1284,27 +1291,30 @@ def proof_checks() -> Iterator[Check]:
         work = Workshop(Path(name))
         work.rt(PROVED)
         yield Check("proved", work.prove("c"), (0, [
-            HEAD, "1 of 3  a proved (1 s), T so far", "2 of 3  b is up to date, T so far",
-            "3 of 3  c proved (2 s), T so far", "rt: c ran, and wrote what it should (0 s)",
-            "rt: ok, 3 crates proved", "all proved, after T"]))
-        yield Check("what rt was asked", (work.folder / "asked").read_text(), "check c\n")
-        yield Check("the log", (work.folder / "target" / "prove.log").read_text().splitlines(), [
-            "fn a::f: proved", "rt: a proved (1 s)", "rt: b is up to date", "rt: c proved (2 s)",
-            "rt: c ran, and wrote what it should (0 s)", "rt: ok, 3 crates proved"])
+            HEAD, "1 of 3  a proved (T), T so far", "2 of 3  b is up to date, T so far",
+            "3 of 3  c proved (T), T so far", "all proved, after T"]))
+        yield Check("what rt was asked", work.asked(), ["lib in a", "lib in b", "run in c"])
+        yield Check("the log", (work.folder / "prove.log").read_text().splitlines(), [
+            "fn a::f: proved", "logic=proved functions=1", "rt: chose --jobs 2 for b", "logic=proved functions=2",
+            "rt: running out/c; to give it other input", "refused 1"])
         work.rt(SLOWLY + PROVED)
         lines = work.at_a_terminal().replace("\r\n", "\n").split(prove.RENEW)
         yield Check("a terminal: where it stands", lines[2], "1 s: 0 of 4 crates done, at a")
         stay = [line.split(",")[0] for line in lines if line.endswith("\n")]
         yield Check("a terminal: lines that stay", stay[:2], ["4 crates", "1 of 4  a proved (1 s)"])
-        yield Check("all crates", (work.folder / "asked").read_text(), "check\n")
+        yield Check("all crates", work.asked(), ["lib in a", "lib in b", "run in c", "lib in d"])
         work.rt(FAILED)
-        yield Check("not proved", work.prove("c"), (3, [
-            HEAD, "1 of 3  a proved (1 s), T so far", "2 of 3  b NOT PROVED (exit 1, 2 s), T so far",
-            "3 of 3  c proved (2 s), T so far", "rt: FAILED: b",
+        (work.folder / "crates.txt").write_text(f"{CRATES}e:\n")
+        yield Check("not proved", work.prove("c", "e"), (3, [
+            HEAD.replace("3", "4", 1), "1 of 4  a proved (T), T so far", "2 of 4  b NOT PROVED (exit 3, T), T so far",
+            "3 of 4  c is not tried, since b is not proved, T so far", "4 of 4  e proved (T), T so far",
             "not proved, after T; the end of what rt printed of it:",
-            *(f"  line {at} of b" for at in range(11, 31)), "  the last word"]))
+            *(f"  line {at} of b" for at in range(13, 31)), "  logic=not-proved", "  the last word"]))
+        yield Check("what is not tried", work.asked(), ["lib in a", "lib in b", "lib in e"])
         work.rt("kill -9 $$\n")
         yield Check("rt is killed", work.prove("c")[0], 137)
+        work.rt("case $crate in c) exit 1;; esac\n")
+        yield Check("a program that is not built", work.prove("c")[0], 1)
         work.rt(ENDLESS)
         for how, status in ((lambda child: child.stdout.close(), command.CLOSED_PIPE),
                             (lambda child: child.send_signal(signal.SIGINT), command.INTERRUPTED),
@@ -1312,7 +1322,7 @@ def proof_checks() -> Iterator[Check]:
             yield Check(f"stopped with {status}", work.stopped(how), (status, False))
         yield Check("a closed pipe", closed_pipe(PROVE, "c", **work.options), (command.CLOSED_PIPE, b""))
         yield Check("no such crate", work.prove("cc"), (2, ["crates.txt has no crate 'cc'; did you mean 'c'?"]))
-        ran = tool(PROVE, cwd=name, env={"PATH": str(work.folder / "target")})
+        ran = tool(PROVE, cwd=name, env={"PATH": str(work.folder / "crates")})
         yield Check("no rt", (ran.returncode, ran.stderr), (127, b"rt, the Rattle toolchain, is not installed: "
                                                             b"README.md says which version is needed\n"))
         (work.folder / "crates.txt").unlink()
@@ -1322,27 +1332,28 @@ def proof_checks() -> Iterator[Check]:
 
 def silence_checks() -> Iterator[Check]:
     """Not at a terminal, a silent rt leaves no half minute without a line."""
-    with tempfile.TemporaryDirectory() as name:
-        logs, out, now = Path(name), io.StringIO(), [0.0]
-        (logs / "b.out").write_text("rt: b proved (7 s)\n")         # of an earlier run
-        progress = prove.Progress({"a", "b", "c"}, logs, out, False, lambda: now[0])
-        (logs / "a.out").write_text("")
-        (logs / "c.out").write_text("rt: c proved (1 s)\n")         # done, and held back
-        seen = [0.0]
-        for second in range(1, 101):
-            now[0] = float(second)
-            before = out.tell()
-            progress.stand()
-            if out.tell() > before:
-                seen.append(now[0])
-        gaps = [after - before for before, after in zip(seen, [*seen[1:], 101])]
-        yield Check("a line at least every 30 seconds", max(gaps) <= 30, True)
-        yield Check("and not all the time", len(seen) < 10, True)
-        yield Check("where it stands", out.getvalue().splitlines()[3:4], ["1 min 20 s: 0 of 3 crates done, at a"])
+    out, now = io.StringIO(), [0.0]
+    progress = prove.Progress(3, out, False, lambda: now[0])
+    progress.begin("a")
+    seen = [0.0]
+    for second in range(1, 101):
+        now[0] = float(second)
+        before = out.tell()
+        progress.stand()
+        if out.tell() > before:
+            seen.append(now[0])
+    gaps = [after - before for before, after in zip(seen, [*seen[1:], 101])]
+    yield Check("a line at least every 30 seconds", max(gaps) <= 30, True)
+    yield Check("and not all the time", len(seen) < 10, True)
+    yield Check("where it stands", out.getvalue().splitlines()[3:4], ["1 min 20 s: 0 of 3 crates done, at a"])
     crates = prove.read_crates((ROOT / "crates.txt").read_text())
     rivers = prove.rested_on(crates, ["river"])
     yield Check("river's crates", {"river", "model", "lists"} <= rivers < set(crates), True)
     yield Check("no library of the kit", {"io", "libc"} & prove.rested_on(crates, list(crates)), set())
+    order = prove.in_order(crates, set(crates))
+    yield Check("each crate behind what it names", [name for at, name in enumerate(order)
+                                                    if not set(crates[name]) <= set(order[:at])], [])
+    yield Check("every crate in order", sorted(order), sorted(crates))
 
 
 # The run
@@ -1350,7 +1361,7 @@ def silence_checks() -> Iterator[Check]:
 
 def arguments() -> argparse.Namespace:
     parser = argparse.ArgumentParser(description="Tests the tools.")
-    parser.add_argument("river", nargs="?", help="path of program river; target/bin/river if it is there")
+    parser.add_argument("river", nargs="?", help="path of program river; crates/river/out/river if it is there")
     parser.add_argument("--full", action="store_true", help="run the program over the whole examples")
     return parser.parse_args()
 
@@ -1383,7 +1394,7 @@ def main() -> int:
             path = program_path(asked.river or str(RIVER))
             groups.append(("program", program_checks(path, asked.full)))
         else:
-            print("no path is given and target/bin/river is not there: the program's listings are left out")
+            print("no path is given and crates/river/out/river is not there: the program's listings are left out")
         totals = [run_group(title, checks) for title, checks in groups]
     except ProgramFault as fault:
         print(f"FAILED: {fault}")

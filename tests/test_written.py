@@ -1,14 +1,14 @@
-"""What the repository's scripts write is what is stored: the proofs by hand, the cases of program `cases`, and what program `samples` prints.
+"""What the repository's scripts write is what is stored: the cases of program `cases`, and what program `samples` prints.
 And the pages keep one width of line.
 
     python3 tests/test_written.py
 
-What scripts write is written anew in a temporary folder and compared byte for byte.  It needs rt, which lays the proofs
-out.  A page's prose has at most 120 columns; wrong pages, in memory, must be refused.
+What scripts write is written anew in a temporary folder and compared byte for byte.  A page's prose has at most 120
+columns; wrong pages, in memory, must be refused.
 """
 from __future__ import annotations
 
-import subprocess
+import os
 import sys
 import tempfile
 from collections.abc import Iterator
@@ -18,15 +18,7 @@ import load_cases
 import sample_fractions
 
 ROOT = Path(__file__).resolve().parent.parent
-LEAST = 10                          # files: seven proofs, what `cases` is given and must print, what `samples` must print
-
-
-def write_proofs(folder: Path) -> None:
-    """tools/hand_proofs.py writes under the folder that it is run in; `rt fmt` wants a list of crates there."""
-    (folder / "crates.txt").write_text("")
-    subprocess.run([sys.executable, str(ROOT / "tools" / "hand_proofs.py")], cwd=folder, check=True)
-    subprocess.run(["rt", "fmt"], cwd=folder, check=True, stdout=subprocess.DEVNULL)
-    (folder / "crates.txt").unlink()
+LEAST = 3                           # files: what `cases` is given and must print, what `samples` must print
 
 
 def write_cases(folder: Path) -> None:
@@ -56,7 +48,7 @@ def differences(folder: Path) -> list[str]:
 
 WIDTH = 120                         # columns
 AS_GIVEN = {"docs/01-scope.md", "docs/02-change-requests.md"}
-NOT_OURS = {".git", "target"}
+NOT_OURS = {".git", "out"}          # out/ of a crate is rt's
 LEAST_PAGES = 19
 
 
@@ -78,9 +70,11 @@ def wide_lines(page: str) -> list[int]:
 
 def pages() -> dict[str, str]:
     """The project's pages by their paths, but for the two documents."""
-    tops = [top for top in ROOT.iterdir() if top.name not in NOT_OURS]
-    paths = {path.relative_to(ROOT).as_posix(): path for top in tops for path in [top, *top.rglob("*")]
-             if path.suffix == ".md"}
+    paths: dict[str, Path] = {}
+    for at, folders, names in os.walk(ROOT):
+        folders[:] = [name for name in folders if name not in NOT_OURS]
+        found = [Path(at, name) for name in names if name.endswith(".md")]
+        paths |= {path.relative_to(ROOT).as_posix(): path for path in found}
     return {name: path.read_text(encoding="utf-8") for name, path in sorted(paths.items()) if name not in AS_GIVEN}
 
 
@@ -121,7 +115,6 @@ def page_faults() -> Iterator[str]:
 def main() -> int:
     with tempfile.TemporaryDirectory(prefix="yumbaqel-") as name:
         folder = Path(name)
-        write_proofs(folder)
         write_cases(folder)
         write_samples(folder)
         found = [f"not stored as it is written: {each}" for each in differences(folder)]

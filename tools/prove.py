@@ -1,11 +1,12 @@
-"""Proves crates with `rt check` and shows where it stands.
+"""Proves and builds crates with rt and shows where it stands.
 
     python3 tools/prove.py river        program river and all crates that it rests on
     python3 tools/prove.py              every crate
 
-A line comes for each crate when rt is through with it.  Meanwhile a terminal shows the time and the crates that
-rt is at, in a line renewed every second; elsewhere such a line is printed every 20 seconds.  All that rt prints is
-kept in target/prove.log.  The exit status is rt's.
+A library is built by `rt lib`, and a program by `rt run`, which runs it too, here on an empty input.  A line comes for
+each crate when rt is through with it.  Meanwhile a terminal shows the time and the crate that rt is at, in a line
+renewed every second; elsewhere such a line is printed every 20 seconds.  All that rt prints is kept in prove.log.  The
+exit status is rt's at the first crate that is not proved.
 """
 from __future__ import annotations
 
@@ -13,7 +14,6 @@ import argparse
 import difflib
 import os
 import queue
-import re
 import shutil
 import signal
 import subprocess
@@ -22,14 +22,14 @@ import threading
 import time
 from collections.abc import Callable
 from pathlib import Path
-from typing import BinaryIO, Optional, TextIO
+from typing import BinaryIO, NamedTuple, Optional, TextIO
 
 import command
 
 RENEWED, REPEATED = 1, 20           # seconds after which it says again where it stands: at a terminal, elsewhere
 TAIL = 20                           # lines shown of what rt printed of a crate that is not proved
 NO_RT, BAD_NAME = 127, 2            # exit statuses, as the shell and rt have them
-REPORT = re.compile(r"rt: (\w+) (.*)")
+LOG = "prove.log"
 RENEW = "\r\x1b[K"                  # back to the beginning of a terminal's line, which is emptied
 
 
@@ -48,7 +48,7 @@ def repository() -> Path:
 def read_crates(text: str) -> dict[str, list[str]]:
     """The crates of crates.txt, each with the crates that it names; libraries of the kit are left out."""
     lines = [line.split("#")[0].partition(":") for line in text.splitlines()]
-    named = {name.strip(): rest.split() for name, _, rest in lines if name.strip()}
+    named = {name.split()[0]: rest.split() for name, _, rest in lines if name.strip()}     # `staticlib` may follow
     return {name: [each for each in rest if each in named] for name, rest in named.items()}
 
 
@@ -64,6 +64,20 @@ def rested_on(crates: dict[str, list[str]], names: list[str]) -> set[str]:
     return found
 
 
+def in_order(crates: dict[str, list[str]], names: set[str]) -> list[str]:
+    """The crates, each behind those that it names."""
+    found: list[str] = []
+
+    def put(name: str) -> None:
+        if name in names and name not in found:
+            for each in crates[name]:
+                put(each)
+            found.append(name)
+    for name in crates:
+        put(name)
+    return found
+
+
 # What is shown
 
 
@@ -73,34 +87,12 @@ def minutes(seconds: float) -> str:
 
 
 class Progress:
-    """Takes what rt prints line by line, and shows which crates it is through with and which it is at.
+    """Shows which crates rt is through with, and which it is at."""
 
-    rt holds back what it prints of a crate until those that it proves at the same time are done; it begins the
-    file target/log/NAME.out when it begins with a crate.
-    """
-
-    def __init__(self, crates: set[str], logs: Path, out: TextIO, terminal: bool,
-                 clock: Callable[[], float] = time.monotonic) -> None:
-        self.crates, self.logs, self.out, self.terminal, self.clock = crates, logs, out, terminal, clock
-        self.begun = self.shown = clock()
-        self.reports: dict[str, str] = {}               # what rt said of each crate that it is through with
-        self.printed: dict[str, list[str]] = {}         # and what it printed before that
-        self.last: list[str] = []                       # what it has printed since
-        self.old = {name: self.written(name) for name in crates}
-
-    def written(self, name: str) -> Optional[int]:
-        """When rt began its file of a crate."""
-        try:
-            return (self.logs / f"{name}.out").stat().st_mtime_ns
-        except FileNotFoundError:
-            return None
-
-    def at(self) -> list[str]:
-        """The crates that rt is at: begun in this run, and with no report yet."""
-        left = sorted(self.crates - set(self.reports))
-        begun = [name for name in left if self.written(name) not in (None, self.old[name])]
-        return [name for name in begun
-                if f"rt: {name} " not in (self.logs / f"{name}.out").read_text(errors="replace")]
+    def __init__(self, count: int, out: TextIO, terminal: bool, clock: Callable[[], float] = time.monotonic) -> None:
+        self.count, self.out, self.terminal, self.clock = count, out, terminal, clock
+        self.begun = self.shown = self.crate_begun = clock()
+        self.done, self.at = 0, ""
 
     def elapsed(self) -> str:
         return minutes(self.clock() - self.begun)
@@ -111,37 +103,49 @@ class Progress:
 
     def stand(self) -> None:
         """Where it stands: at a terminal in a line that is renewed, elsewhere in one more line now and then."""
-        if not self.terminal and self.clock() - self.shown < REPEATED:
+        if self.clock() - self.shown < (RENEWED if self.terminal else REPEATED):
             return
-        at = " and ".join(self.at())
-        words = f"{self.elapsed()}: {len(self.reports)} of {len(self.crates)} crates done{at and f', at {at}'}"
+        words = f"{self.elapsed()}: {self.done} of {self.count} crates done{self.at and f', at {self.at}'}"
         if self.terminal:
             width = shutil.get_terminal_size().columns - 1
             print(f"{RENEW}{words[:width]}", end="", file=self.out, flush=True)
+            self.shown = self.clock()
         else:
             self.line(words)
 
-    def take(self, line: str) -> None:
-        """A line that rt printed: its report on a crate, another word of its own, or the prover's."""
-        report = REPORT.fullmatch(line)
-        name = report[1] if report else ""
-        if name in self.crates and name not in self.reports:
-            self.reports[name], self.printed[name], self.last = report[2], self.last, []
-            width = len(str(len(self.crates)))
-            self.line(f"{len(self.reports):{width}} of {len(self.crates)}  {name} {report[2]}, "
-                      f"{self.elapsed()} so far")
-        elif line.startswith("rt: "):
-            self.line(line)
-        else:
-            self.last.append(line)
+    def begin(self, name: str) -> None:
+        self.at, self.crate_begun = name, self.clock()
 
-    def why(self) -> list[str]:
-        """The end of what rt printed of each crate that is not proved, and of what it printed last."""
-        failed = [lines for name, lines in self.printed.items() if not self.reports[name].startswith("proved")]
-        return [line for lines in (*failed, self.last) for line in lines[-TAIL:]]
+    def seconds(self) -> str:
+        """How long rt has been at its crate."""
+        return f"{int(self.clock() - self.crate_begun)} s"
+
+    def end(self, name: str, report: str) -> None:
+        self.done, self.at = self.done + 1, ""
+        self.line(f"{self.done:{len(str(self.count))}} of {self.count}  {name} {report}, {self.elapsed()} so far")
 
 
 # The run
+
+
+class Ran(NamedTuple):
+    """What rt made of a crate: its exit status, and what it printed."""
+
+    status: int
+    lines: list[str]
+
+    def has(self, begin: str) -> bool:
+        return any(line.startswith(begin) for line in self.lines)
+
+    @property
+    def built(self) -> bool:
+        """A program that is run is built, whatever it makes of an empty input."""
+        return self.status == 0 or self.has("rt: running out/")
+
+    def report(self, seconds: str) -> str:
+        if not self.built:
+            return f"NOT PROVED (exit {self.status}, {seconds})"
+        return f"proved ({seconds})" if self.has("logic=proved ") else "is up to date"
 
 
 def pump(printed: BinaryIO, lines: queue.Queue[Optional[bytes]]) -> None:
@@ -150,51 +154,71 @@ def pump(printed: BinaryIO, lines: queue.Queue[Optional[bytes]]) -> None:
     lines.put(None)
 
 
-def follow(rt: subprocess.Popen, log: BinaryIO, progress: Progress) -> None:
-    """Shows what rt prints until it ends; between its lines, where it stands."""
+def follow(rt: subprocess.Popen, log: BinaryIO, progress: Progress) -> list[str]:
+    """Takes what rt prints until it ends; between its lines, shows where it stands."""
     lines: queue.Queue[Optional[bytes]] = queue.Queue()
     threading.Thread(target=pump, args=(rt.stdout, lines), daemon=True).start()
+    found = []
     while True:
         try:
             line = lines.get(timeout=RENEWED)
         except queue.Empty:
-            progress.stand()            # rt is silent
-            continue
+            line = b""
+        progress.stand()
         if line is None:
-            return
-        log.write(line)
-        log.flush()
-        progress.take(line.decode(errors="replace").rstrip("\n"))
+            return found
+        if line:
+            log.write(line)
+            log.flush()
+            found.append(line.decode(errors="replace").rstrip("\n"))
 
 
-def prove(root: Path, names: list[str], progress: Progress) -> int:
-    """Runs rt check; its exit status."""
-    path = root / "target" / "prove.log"
-    path.parent.mkdir(exist_ok=True)
-    with path.open("wb") as log:
-        rt = subprocess.Popen(["rt", "check", *names], cwd=root, stdin=subprocess.DEVNULL, stdout=subprocess.PIPE,
-                              stderr=subprocess.STDOUT, process_group=0)
-        try:
-            follow(rt, log, progress)
-            status = rt.wait()
-        finally:
-            if rt.poll() is None:       # stopped early: the provers that rt has started are in its group
-                os.killpg(rt.pid, signal.SIGTERM)
-    return status if status >= 0 else 128 - status
+def build(folder: Path, log: BinaryIO, progress: Progress) -> Ran:
+    """Has rt prove and build the crate in a folder."""
+    word = "run" if (folder / "src" / "main.rt").is_file() else "lib"
+    rt = subprocess.Popen(["rt", word], cwd=folder, stdin=subprocess.DEVNULL, stdout=subprocess.PIPE,
+                          stderr=subprocess.STDOUT, process_group=0)
+    try:
+        lines = follow(rt, log, progress)
+        status = rt.wait()
+    finally:
+        if rt.poll() is None:           # stopped early: the provers that rt has started are in its group
+            os.killpg(rt.pid, signal.SIGTERM)
+    return Ran(status if status >= 0 else 128 - status, lines)
+
+
+def prove(root: Path, crates: dict[str, list[str]], names: list[str], progress: Progress) -> dict[str, Ran]:
+    """Builds the crates in this order, but for those above one that is not proved; what rt made of these."""
+    failed: dict[str, Ran] = {}
+    left: set[str] = set()
+    with (root / LOG).open("wb") as log:
+        for name in names:
+            below = next((each for each in crates[name] if each in left), None)
+            progress.begin(name)
+            if below:
+                left.add(name)
+                progress.end(name, f"is not tried, since {below} is not proved")
+                continue
+            ran = build(root / "crates" / name, log, progress)
+            progress.end(name, ran.report(progress.seconds()))
+            if not ran.built:
+                left.add(name)
+                failed[name] = ran
+    return failed
 
 
 def arguments() -> argparse.Namespace:
-    parser = argparse.ArgumentParser(description="Proves crates with `rt check` and shows where it stands.")
+    parser = argparse.ArgumentParser(description="Proves and builds crates with rt and shows where it stands.")
     parser.add_argument("crates", nargs="*",
                         help="the crates to prove, with all that they rest on; every crate if none is named")
     return parser.parse_args()
 
 
 def main() -> int:
-    names = arguments().crates
+    named = arguments().crates
     root = repository()
     crates = read_crates((root / "crates.txt").read_text(encoding="utf-8"))
-    for name in names:
+    for name in named:
         if name not in crates:
             near = difflib.get_close_matches(name, crates, 1)
             command.say(f"crates.txt has no crate '{name}'" + (f"; did you mean '{near[0]}'?" if near else ""))
@@ -205,21 +229,23 @@ def main() -> int:
     for number in (signal.SIGHUP, signal.SIGTERM):
         signal.signal(number, lambda number, _: sys.exit(128 + number))
     terminal = sys.stdout is not None and sys.stdout.isatty() and os.environ.get("TERM", "dumb") != "dumb"
-    progress = Progress(rested_on(crates, names or list(crates)), root / "target" / "log", sys.stdout, terminal)
-    progress.line(f"{len(progress.crates)} crates, each proved if it has changed since it last was; "
-                  "target/prove.log has all that rt prints")
+    names = in_order(crates, rested_on(crates, named or list(crates)))
+    progress = Progress(len(names), sys.stdout, terminal)
+    progress.line(f"{len(names)} crates, each proved if it has changed since it last was; "
+                  f"{LOG} has all that rt prints")
     try:
-        status = prove(root, names, progress)
+        failed = prove(root, crates, names, progress)
     except KeyboardInterrupt:
         progress.line(f"stopped, after {progress.elapsed()}; a crate that is proved is not proved again")
         return command.INTERRUPTED
-    if not status:
+    if not failed:
         progress.line(f"all proved, after {progress.elapsed()}")
         return 0
     progress.line(f"not proved, after {progress.elapsed()}; the end of what rt printed of it:")
-    for line in progress.why():
-        progress.line(f"  {line}")
-    return status
+    for ran in failed.values():
+        for line in ran.lines[-TAIL:]:
+            progress.line(f"  {line}")
+    return next(iter(failed.values())).status
 
 
 if __name__ == "__main__":
