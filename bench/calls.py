@@ -1,6 +1,6 @@
 """Times each call of the library, and prints how the time grows with the river.
 
-    python3 bench/calls.py [--archive target/staticlib/libyumbaqel.a] [--runs 5]
+    python3 bench/calls.py [--archive crates/yumbaqel/out/libyumbaqel.a] [--runs 5]
 
 bench/calls.c makes the calls; the best of all runs counts. The first column is the largest river without flow rows: 1,024 segments, 64
 reaches, 256 rows, 32 gauges; the second one has 64 flow rows too, and its step is one with two sets; the third has 32 bands in each reach
@@ -79,7 +79,7 @@ def print_ahead(what: str, program: Path, runs: int) -> None:
 
 def main() -> None:
     words = argparse.ArgumentParser(description=__doc__.splitlines()[0])
-    words.add_argument("--archive", type=Path, default=ROOT / "target/staticlib/libyumbaqel.a")
+    words.add_argument("--archive", type=Path, default=ROOT / "crates/yumbaqel/out/libyumbaqel.a")
     words.add_argument("--runs", type=int, default=5)
     given = words.parse_args()
     if len(sheet(LARGEST_WITH_BANDS)) != LONGEST_SHEET:

@@ -1,6 +1,6 @@
 """Times program `river` beside the same job written in C, in whole numbers and in double precision, and prints the ratios.
 
-    python3 bench/speed.py [--river target/bin/river] [--archive target/staticlib/libyumbaqel.a] [--runs 15]
+    python3 bench/speed.py [--river crates/river/out/river] [--archive crates/yumbaqel/out/libyumbaqel.a] [--runs 15]
 
 bench/otis.h has the documents' arithmetic in C with its eight divisions, bench/river.c the program with it, whose lists stand behind one
 another or a cache line apart, as those of river do; bench/double.c is the program in double precision, whose coefficients are worked out
@@ -106,8 +106,8 @@ def segment_steps(given: bytes) -> int:
 
 def main() -> None:
     words = argparse.ArgumentParser(description=__doc__.splitlines()[0])
-    words.add_argument("--river", type=Path, default=ROOT / "target/bin/river")
-    words.add_argument("--archive", type=Path, default=ROOT / "target/staticlib/libyumbaqel.a")
+    words.add_argument("--river", type=Path, default=ROOT / "crates/river/out/river")
+    words.add_argument("--archive", type=Path, default=ROOT / "crates/yumbaqel/out/libyumbaqel.a")
     words.add_argument("--runs", type=int, default=15)
     given = words.parse_args()
 

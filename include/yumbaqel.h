@@ -1,7 +1,7 @@
 /*
  * Yumbaqel: the OTIS river inside an intake gate controller, for C99 and C++.
  *
- * Link libyumbaqel.a, which `rt staticlib yumbaqel` writes (docs/C.md). Every function below is total: it takes any bytes, figures and
+ * Link libyumbaqel.a, which `rt lib` in crates/yumbaqel writes (docs/C.md). Every function below is total: it takes any bytes, figures and
  * lengths, and its outcome is proved to be the one that documents 01 (docs/01-scope.md) and 02 (docs/02-change-requests.md, 1 to 3 and 5 to
  * 7) set out.
  *

@@ -1,6 +1,6 @@
 """Shows a listing of program `river`: a table of peaks, a small plot for each gauge, and curves as SVG.
 
-    target/bin/river < SHEET.otr | python3 tools/curves.py --sheet SHEET.otr -o CURVES.svg
+    crates/river/out/river < SHEET.otr | python3 tools/curves.py --sheet SHEET.otr -o CURVES.svg
     python3 tools/curves.py LISTING --dt 2 --limit "10 mg/L" --show channel storage
 
 The listing has no times: they come from the sheet's step, or from --dt.  Times are those of the listing's lines,
