@@ -1,14 +1,15 @@
 /*
  * A waterworks: several rivers in one hut, and a gate in each that shuts while its river stands above its limit.
  *
- *     waterworks SHEET GAUGE LIMIT [SHEET GAUGE LIMIT ..]
+ *     waterworks [forecast] SHEET GAUGE LIMIT [SHEET GAUGE LIMIT ..]
  *
  * SHEET, GAUGE and LIMIT are as for gate, of each stream in turn; SHEET is a file. The streams are opened in their order, each under the
  * lowest number that is free. One that finds no number or no room (17) waits, and those behind it, until another one is closed. The open
  * rivers are stepped in turn, with U from their sheets' boundary rows and the flow of their flow rows. Each gate is open at the start, and
  * then shut while the figure and the margin of the river's own steps together are above its limit, as that of gate.
  *
- * A stream that is opened is forecast over its M steps, and a line says when its gauge will first be above the limit by its figure.
+ * With the word forecast a stream that is opened is forecast over its M steps, and a line says when its gauge will first be above the limit
+ * by its figure.
  *
  * After its M steps a river is closed, and so is at once one whose sheet has no such gauge. The number that it leaves is opened again for
  * the next stream that waits; naming the same SHEET twice opens the same river again, from its start. A line is printed when a stream is
@@ -25,6 +26,7 @@ static struct yumbaqel_shared shared;
 /* For forecasts, of one river after the other; the working lists serve them between two steps. */
 static uint32_t copy_words[YUMBAQEL_COPY_WORDS(YUMBAQEL_MOST_SEGMENTS)], side_words[YUMBAQEL_SIDES_WORDS(YUMBAQEL_MOST_SEGMENTS)];
 static struct yumbaqel_river copy;
+static int foretold;
 
 /* The river of a number and its gate. A controller that knows how long its rivers are lends each of them that many segments. */
 static struct stream {
@@ -98,7 +100,8 @@ static int open_stream(uint32_t number, unsigned which, char **words_of)
     need(yumbaqel_river_rows(river));          /* a loaded sheet's rows give U at step 0, with which it is started again */
     need(yumbaqel_river_upstream(river, 0, &u));
     need(yumbaqel_shared_start(&shared, number, river, u));
-    look_ahead(number, stream);
+    if (foretold)
+        look_ahead(number, stream);
     return 1;
 }
 
@@ -130,8 +133,11 @@ int main(int count, char **arguments)
     int next = 1, open, closed = 1;    /* closed: one that waits may find a number and room now, as at the start */
     uint32_t number;
 
+    foretold = count % 3 == 2 && strcmp(arguments[1], "forecast") == 0;
+    count -= foretold;
+    arguments += foretold;
     if (count < 4 || count % 3 != 1)
-        leave("usage: waterworks SHEET GAUGE LIMIT [SHEET GAUGE LIMIT ..]");
+        leave("usage: waterworks [forecast] SHEET GAUGE LIMIT [SHEET GAUGE LIMIT ..]");
     if (yumbaqel_version() != YUMBAQEL_VERSION)
         leave("waterworks: the header is not the library's");
     yumbaqel_shared_lend(&shared, words, wide_words);

@@ -450,8 +450,9 @@ class Running:
     done: int = 0
 
 
-def waterworks_lines(streams: list[Stream], per_step: int = exact.ALLOWED) -> str:
-    """What examples/waterworks.c prints: each river moves as it does alone, and the pool decides who waits."""
+def waterworks_lines(streams: list[Stream], per_step: int = exact.ALLOWED, foretold: bool = False) -> str:
+    """What examples/waterworks.c prints: each river moves as it does alone, and the pool decides who waits.  With the
+    word forecast it says at an opening when the gauge will first be above the limit."""
     lines: list[str] = []
     waiting, running = list(enumerate(streams, 1)), {}
     while waiting or running:
@@ -469,8 +470,9 @@ def waterworks_lines(streams: list[Stream], per_step: int = exact.ALLOWED) -> st
                     number = min(set(range(1, MOST_RIVERS + 1)) - set(running))
                     running[number] = Running(which, segments, found.header.M, gate_moves(*stream, per_step))
                     lines.append(f"stream {which} opened as river {number}\n")
-                    looked = next(first_above(stream.sheet, stream.gauge, stream.limit, found.header.M))
-                    lines.append(f"stream {which} {ahead_line(found.header.dt, *looked)}")
+                    if foretold:
+                        looked = next(first_above(stream.sheet, stream.gauge, stream.limit, found.header.M))
+                        lines.append(f"stream {which} {forecast_line(found.header.dt, *looked)}")
                 else:
                     lines.append(f"stream {which} has no such gauge\n")
             waiting.pop(0)
@@ -481,6 +483,37 @@ def waterworks_lines(streams: list[Stream], per_step: int = exact.ALLOWED) -> st
                 lines.append(f"stream {stream.which} done {stream.done}\n")
                 del running[number]
     return "".join(lines)
+
+
+def copied(state: model.State) -> model.State:
+    return replace(state, C=list(state.C), Z=list(state.Z), W=list(state.W))
+
+
+def ahead_lines(sheet: bytes, gauge: int, limit: int, most: int) -> str:
+    """What examples/ahead.c prints, by the model: a copy of the state runs on, U as it is, through the flow rows."""
+    try:
+        found, rivers = model.rivers_on(sheet)
+    except model.Refusal as refusal:
+        return refused_line(refusal)
+    n, at = len(rivers[0]), found.gauges[gauge - 1] - 1
+    sets = [model.Lists(n) for _ in rivers]
+    for lists, river in zip(sets, rivers):
+        lists.fill(river)
+    highest = [0] * model.block_count(n)
+    lines = []
+    for state in states(sheet):
+        if state.count % found.header.interval:
+            continue
+        copy = copied(state)
+        while copy.C[at] <= limit and copy.count - state.count < most and copy.count < MOST_STEPS:
+            pair = (sets[model.flow_in_force(sheet, copy.count + more)] for more in (0, 1))
+            model.step(*pair, n, copy, highest, [0] * n, [0] * n, copy.U, MOST_STEPS)
+        taken = copy.count - state.count
+        if copy.C[at] > limit:
+            lines.append(f"step {state.count}: above in {taken} steps, {taken * found.header.dt} s\n")
+        else:
+            lines.append(f"step {state.count}: not above in {taken} steps\n")
+    return "".join((*lines, f"done {found.header.M}\n"))
 
 
 def first_above(sheet: bytes, gauge: int, limit: int, most: int) -> Iterator[tuple[int, Optional[int], int]]:
@@ -495,19 +528,19 @@ def first_above(sheet: bytes, gauge: int, limit: int, most: int) -> Iterator[tup
         yield count, next((step for step in range(count, last + 1) if shown[step] > limit), None), last
 
 
-def ahead_line(dt: int, count: int, first: Optional[int], last: int) -> str:
+def forecast_line(dt: int, count: int, first: Optional[int], last: int) -> str:
     if first is None:
         return f"not above up to step {last}\n"
     return f"first above at step {first}, that is after {(first - count) * dt} seconds\n"
 
 
-def ahead_lines(sheet: bytes, gauge: int, limit: int, most: int) -> str:
-    """What examples/ahead.c prints, by the model: the sheet's own river is looked through, up to M."""
+def forecast_lines(sheet: bytes, gauge: int, limit: int, most: int) -> str:
+    """What examples/forecast.c prints, by the model: the sheet's own river is looked through, up to M."""
     refusal = model.answer(sheet)
     if refusal is not None:
         return refused_line(refusal)
     header = model.read_sheet(sheet).header
-    lines = [f"step {count}: {ahead_line(header.dt, count, first, last)}"
+    lines = [f"step {count}: {forecast_line(header.dt, count, first, last)}"
              for count, first, last in first_above(sheet, gauge, limit, most) if count % header.interval == 0]
     return "".join((*lines, f"done {header.M}\n"))
 
@@ -581,28 +614,45 @@ def run_gate(archive: str, folder: Path, total: Tally) -> None:
 
 
 def run_ahead(archive: str, folder: Path, total: Tally) -> None:
-    """It prints what the sheet's own river will show, to the horizon's end and no further than M; the river stays."""
+    """It prints what the model says: the copy runs on, past the sheet's M too and up to 100,000; the river stays."""
     ahead = Example("ahead", archive, folder)
+    seen = set()
+    tried = [*product(example_sheets()[:-3], (1, 3), (2_000, 100_000), (20,)),
+             *product(example_sheets()[-3:], (2,), (HIGHEST // 2,), (0, 3)),
+             (sheets.write(sheets.brook(dt=1, Q=500, U=7, M=1)), 1, HIGHEST, 2 * MOST_STEPS)]
+    for sheet, gauge, limit, most in tried:
+        wanted = ahead_lines(sheet, gauge, limit, most)
+        ahead.compare(ahead.run(sheet, gauge, limit, most), wanted, f"gauge {gauge}, limit {limit}, {most} steps")
+        seen |= {word for word in (": above", ": not above", f"not above in {MOST_STEPS - 1} steps", "refused 4\n")
+                 if word in wanted}
+    ahead.hold(len(seen) == 4, f"shows too little: {seen}")
+    ahead.close(total)
+
+
+def run_forecast(archive: str, folder: Path, total: Tally) -> None:
+    """It prints what the sheet's own river will show, to the horizon's end and no further than M; the river stays."""
+    forecast = Example("forecast", archive, folder)
     seen = set()
     tried = [*product(example_sheets()[:-3], (1, 3), (2_000, 100_000, 880_000), (20,)),
              *product(example_sheets()[-3:], (2,), (HIGHEST // 2,), (0, 3)),
              *((sheets.write(draft), 2, limit, most) for draft in (pulse(), melting(), in_flood())
                for limit, most in ((0, 60), (7_000, 5), (7_000, 0), (7_000, 2 ** 40), (10 ** 10, 3)))]
     for sheet, gauge, limit, most in tried:
-        wanted = ahead_lines(sheet, gauge, limit, most)
-        ahead.compare(ahead.run(sheet, gauge, limit, most), wanted, f"gauge {gauge}, limit {limit}, {most} steps")
+        wanted = forecast_lines(sheet, gauge, limit, most)
+        forecast.compare(forecast.run(sheet, gauge, limit, most), wanted,
+                         f"gauge {gauge}, limit {limit}, {most} steps")
         seen |= {word for word in (" that is after 0 seconds\n", " that is after 10 seconds\n",
                                    " that is after 200 seconds\n", "step 50: not above up to step 60\n",
                                    "step 60: not above up to step 60\n", "step 0: not above up to step 0\n",
                                    "refused 4\n") if word in wanted}
     for gauge in (0, 4):
-        ahead.compare(ahead.run(sheets.write(pulse()), gauge, 1, 1), "", f"gauge {gauge}, which there is not")
+        forecast.compare(forecast.run(sheets.write(pulse()), gauge, 1, 1), "", f"gauge {gauge}, which there is not")
     page = (ROOT / "docs" / "C.md").read_text()
-    shown = re.search(r"# \./ahead (\S+) (\d+) (\d+) (\d+)\n\n((?:    step .*\n)+)", page)
-    printed = ahead.printed(ROOT / shown[1], *shown.groups()[1:4])
-    ahead.hold(textwrap.dedent(shown[5]) in printed, f"docs/C.md shows {shown[5]!r}")
-    ahead.hold(len(seen) == 7, f"shows too little: {seen}")
-    ahead.close(total)
+    shown = re.search(r"# \./forecast (\S+) (\d+) (\d+) (\d+)\n\n((?:    step .*\n)+)", page)
+    printed = forecast.printed(ROOT / shown[1], *shown.groups()[1:4])
+    forecast.hold(textwrap.dedent(shown[5]) in printed, f"docs/C.md shows {shown[5]!r}")
+    forecast.hold(len(seen) == 7, f"shows too little: {seen}")
+    forecast.close(total)
 
 
 def run_key(archive: str, folder: Path, total: Tally) -> None:
@@ -695,7 +745,7 @@ def run_waterworks(archive: str, folder: Path, total: Tally) -> None:
         [Stream(small, 4, 1)],
         near_limits(),
     ]
-    shown = []
+    shown, foretold = [], []
     for at, streams in enumerate(cases):
         words = []
         for which, stream in enumerate(streams):
@@ -704,18 +754,24 @@ def run_waterworks(archive: str, folder: Path, total: Tally) -> None:
             words += [file, stream.gauge, stream.limit]
         shown.append(waterworks.printed(*words))
         waterworks.compare(shown[-1], waterworks_lines(streams), f"case {at}")
+        foretold.append(waterworks.printed("forecast", *words))
+        waterworks.compare(foretold[-1], waterworks_lines(streams, foretold=True), f"case {at}, with forecasts")
     for word in ("shut", "open at", "refused 6 reach 2", "refused 2\n", "stream 11 opened", "6 opened as river 1\n",
-                 "stream 1 done 15\nstream 2 opened as river 1\n"
-                 "stream 2 first above at step 5, that is after 50 seconds\nstream 2 shut",
-                 "stream 2 not above up to step 60\n",
+                 "stream 1 done 15\nstream 2 opened as river 1\nstream 2 shut",
                  "stream 1 has no such gauge\nstream 2 opened as river 1\n",
                  "stream 4 has no such gauge\nstream 5 opened as river 1\n", "stream 7 has no such gauge\n"):
         waterworks.hold(word in "".join(shown), f"no case shows {word!r}")
+    for word in ("stream 1 done 15\nstream 2 opened as river 1\n"
+                 "stream 2 first above at step 5, that is after 50 seconds\nstream 2 shut",
+                 "stream 2 not above up to step 60\n"):
+        waterworks.hold(word in "".join(foretold), f"no case with forecasts shows {word!r}")
     again = [[line[len("stream 1"):] for line in shown[5].splitlines() if line.startswith(f"stream {which} ")]
              for which in (1, 2, 3)]
     waterworks.hold(again[0] == again[1] == again[2], "a river that is opened again does not move as before")
     waterworks.hold(shown[-1] != waterworks_lines(near_limits(), per_step=0), "the margin does not show")
     waterworks.compare(waterworks.printed(folder / "stream0", 1), "", "words are missing")
+    waterworks.compare(waterworks.printed("forecast", folder / "stream0", 1), "", "words are missing with forecasts")
+    waterworks.compare(waterworks.printed("forecasts", *words), "", "another word in front")
     waterworks.close(total)
 
 
@@ -742,6 +798,7 @@ def run_stack(archive: str, folder: Path, total: Tally) -> None:
 def examples(archive: str, folder: Path, total: Tally) -> None:
     run_gate(archive, folder, total)
     run_ahead(archive, folder, total)
+    run_forecast(archive, folder, total)
     run_key(archive, folder, total)
     run_reset(archive, folder, total)
     run_waterworks(archive, folder, total)
