@@ -13,27 +13,9 @@ use Rattle.own_river.specs.Sides.{Sides}
 use Rattle.own_river.proofs.Parts.{sides-of, long-new}
 use Rattle.own_river.proofs.sides.fill.Goals as goal
 
-pub top_of-top-requires : goal.top_of-top-requires
-top_of-top-requires c = tt
-
-pub dt-dt-requires : goal.dt-dt-requires
-dt-dt-requires c = tt
-
-pub dx-dx-requires : goal.dx-dx-requires
-dx-dx-requires c = tt
-
-pub reach-own-requires : goal.reach-own-requires
-reach-own-requires c = tt
-
-pub first-table-requires : goal.first-table-requires
-first-table-requires c = tt
-
 pub first-here-requires : goal.first-here-requires
 first-here-requires c =
     record { read = read_all ((behind-12 c.args.sheet.now c.requires.0.count c.requires.0.passed).0); length = c.dx-dx.ensures; reach = c.reach-own.ensures; bands = c.first-table.ensures }
-
-pub ad-above-requires : goal.ad-above-requires
-ad-above-requires c = tt
 
 pub loop-i-init : goal.loop-i-init
 loop-i-init c =
@@ -50,14 +32,8 @@ pub below-below-requires : goal.below-below-requires
 below-below-requires c =
     lower-asks ((behind-12 c.args.sheet.now c.requires.0.count c.requires.0.passed).0) c.loop-i-test.true (c.loop-i.invariant.0 c.loop-i-test.true) c.reach_below-lower.ensures c.bands_below-lower_table.ensures c.dx-dx.ensures
 
-pub ad-requires : goal.ad-requires
-ad-requires c = tt
-
 pub overflow_add-i : goal.overflow_add-i
-overflow_add-i c = omega (arith, (omega (arith, c.loop-i-test.true, few ((behind-12 c.args.sheet.now c.requires.0.count c.requires.0.passed).0))))
-
-pub site-site-requires : goal.site-site-requires
-site-site-requires c = tt
+overflow_add-i c = omega (arith, c.loop-i-test.true, few (behind-12 c.args.sheet.now c.requires.0.count c.requires.0.passed).0)
 
 pub numbers-requires : goal.numbers-requires
 numbers-requires c =
@@ -65,27 +41,24 @@ numbers-requires c =
 
 pub put_segment-requires : goal.put_segment-requires
 put_segment-requires c =
-    omega (arith, c.loop-i-test.true, c.loop-i.inv.5, c.requires.2)
-
-pub ad-above-requires-in-loop-i : goal.ad-above-requires-in-loop-i
-ad-above-requires-in-loop-i c = tt
+    omega (arith, c.loop-i-test.true, c.loop-i.invariant.5, c.requires.2)
 
 pub overflow_add-i-in-loop-i : goal.overflow_add-i-in-loop-i
-overflow_add-i-in-loop-i c = omega (arith, (omega (arith, c.loop-i-test.true, few ((behind-12 c.args.sheet.now c.requires.0.count c.requires.0.passed).0))))
+overflow_add-i-in-loop-i c = omega (arith, c.loop-i-test.true, few (behind-12 c.args.sheet.now c.requires.0.count c.requires.0.passed).0)
 
 pub loop-i-smaller : goal.loop-i-smaller
 loop-i-smaller c = omega (arith, c.loop-i-test.true)
 
 pub loop-i-preserved : goal.loop-i-preserved
 loop-i-preserved c =
-    let c = c.loop-i-test.true in
-    let inv = c.loop-i.inv in
+    let inside = c.loop-i-test.true in
+    let inv = c.loop-i.invariant in
     let put = c.put_segment.ensures in (
-      λ more. goes_on ((behind-12 c.args.sheet.now c.requires.0.count c.requires.0.passed).0) c (c.loop-i.invariant.0 c.loop-i-test.true) c.below-below.ensures c.ad-above-in-loop-i.ensures more,
+      λ more. goes_on ((behind-12 c.args.sheet.now c.requires.0.count c.requires.0.passed).0) inside (c.loop-i.invariant.0 c.loop-i-test.true) c.below-below.ensures c.ad-above-in-loop-i.ensures more,
       rw (ap (λ (x : Sides). x.new) put.sides) (
-          writing-turn inv.1 (long-new c.args.sides.now c.args.n c.requires.2) c
-          (segment-is _ _ c.numbers.result c.loop-i.own (numbers-are (on-course c.args.sheet.now c.args.row c.top_of-top.ensures (stood ((behind-12 c.args.sheet.now c.requires.0.count c.requires.0.passed).0) c.loop-i-test.true (c.loop-i.invariant.0 c.loop-i-test.true) c.below-below.ensures (rw c.dx-dx.ensures at c.site-site.ensures) c.dt-dt.ensures c.ad.ensures)) ((behind-12 c.args.sheet.now c.requires.0.count c.requires.0.passed).1.each c.args.row c.requires.1) c c.numbers.ensures) (sym (ap (λ (x : Site). x.own) c.site-site.ensures) ∙ own_is (on-course c.args.sheet.now c.args.row c.top_of-top.ensures (stood ((behind-12 c.args.sheet.now c.requires.0.count c.requires.0.passed).0) c.loop-i-test.true (c.loop-i.invariant.0 c.loop-i-test.true) c.below-below.ensures (rw c.dx-dx.ensures at c.site-site.ensures) c.dt-dt.ensures c.ad.ensures))))),
-      omega (arith, c),
+          writing-turn inv.1 (long-new c.args.sides.now c.args.n c.requires.2) inside
+          (segment-is _ _ c.numbers.result c.loop-i.own (numbers-are (on-course c.args.sheet.now c.args.row c.top_of-top.ensures (stood ((behind-12 c.args.sheet.now c.requires.0.count c.requires.0.passed).0) c.loop-i-test.true (c.loop-i.invariant.0 c.loop-i-test.true) c.below-below.ensures (rw c.dx-dx.ensures at c.site-site.ensures) c.dt-dt.ensures c.ad.ensures)) ((behind-12 c.args.sheet.now c.requires.0.count c.requires.0.passed).1.each c.args.row c.requires.1) inside c.numbers.ensures) (sym (ap (λ (x : Site). x.own) c.site-site.ensures) ∙ own_is (on-course c.args.sheet.now c.args.row c.top_of-top.ensures (stood ((behind-12 c.args.sheet.now c.requires.0.count c.requires.0.passed).0) c.loop-i-test.true (c.loop-i.invariant.0 c.loop-i-test.true) c.below-below.ensures (rw c.dx-dx.ensures at c.site-site.ensures) c.dt-dt.ensures c.ad.ensures))))),
+      omega (arith, inside),
       ap (λ (x : Sides). x.old) put.sides ∙ inv.3,
       ap (λ (x : Sides). x.rest) put.sides ∙ inv.4,
       put.long ∙ inv.5,
@@ -99,7 +72,3 @@ returns c =
     let inv = c.loop-i.invariant in
     let new = writing-end c.args.sheet.now c.args.row inv.1 (omega (arith, c.loop-i-test.false, inv.2, c.requires.0.count)) in
     record { sides = sides-of inv.3 new inv.4; long = inv.5 }
-
--- TODO helper over places
--- read : (s : tie.Start invariant-loop decreases-loop) → Read s.args.sheet.now s.args.n
--- read s = (behind-12 s.args.sheet.now s.requires.0.count s.requires.0.passed).0

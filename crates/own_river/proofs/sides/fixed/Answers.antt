@@ -4,4 +4,4 @@ use Rattle.own_river.proofs.sides.fixed.Goals as goal
 
 pub returns : goal.returns
 unfolding sides_of
-returns c = rw (c.part.ensures, c.part-2.ensures, c.kd.ensures, c.starts.ensures)
+returns c numbers = rw (c.part.ensures, c.part-2.ensures, c.kd.ensures, c.starts.ensures)
