@@ -3,7 +3,6 @@ use Rattle.std.specs.Prelude.{ℕ}
 use Rattle.model.specs.Refusals.{Outcome, accepted, refused}
 use Rattle.terms.specs.Says.{place_says}
 use Rattle.boundary.specs.declared.Upstream.{Upstream}
-use Rattle.boundary.specs.declared.Upstream.TheVariants as Upstream
 
 abbrev pub upstream_says : Upstream → Outcome ℕ
 upstream_says (Upstream.Figure u) = accepted u

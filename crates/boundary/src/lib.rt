@@ -1,4 +1,6 @@
 // The boundary rows in lent lists, and U at a step.
+#![tactic(auto)]
+
 use terms::Place;
 
 pub mod rows;

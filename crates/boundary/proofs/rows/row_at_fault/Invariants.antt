@@ -1,0 +1,12 @@
+-- `rows::row_at_fault` meets its contract. The loop's invariant: no row below i is at fault, and `before` is the start of the row before.
+use Prim.Native.Nat.{◌-◌}
+use lib.ListN.{length}
+use Rattle.model.specs.Load.{row_fault}
+use Rattle.sheet.proofs.Entries.{Passing}
+use Rattle.boundary.proofs.rows.row_at_fault.Given as goal
+
+abbrev pub invariant-loop-i : goal.invariant-loop-i
+invariant-loop-i l = Passing (row_fault l.steps l.starts l.concentrations) (length l.starts) l.starts l.i l.before
+
+abbrev pub decreases-loop-i : goal.decreases-loop-i
+decreases-loop-i l = length l.starts - l.i
