@@ -1,4 +1,1 @@
-pub mod Again
 pub mod Filled
-pub mod Locals
-pub mod NoReach

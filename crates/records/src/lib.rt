@@ -1,4 +1,6 @@
 // The list of reach records that a loading is lent: a record put in, one taken out, and its first entries filled from a sheet.
+#![tactic(auto)]
+
 ghost use Rattle.std.specs.Prelude.{◌≡◌, map, set, get_or};
 ghost use Rattle.model.specs.Sheet.{reach_count};
 ghost use Rattle.terms.specs.Says.{reach_says};
