@@ -1,4 +1,6 @@
 // A loading that is lent the list of reach records with the other lists: the documents' call.
+#![tactic(auto)]
+
 ghost use Rattle.std.specs.Prelude.{◌≡◌, map, length};
 ghost use Rattle.model.specs.Load.{load_answer, load_columns, load_records};
 ghost use Rattle.terms.specs.Says.{reach_says};
