@@ -1,5 +1,5 @@
--- What a call is lent, gathered as the records of `model`'s definitions. `set`, `columns`, `state`, `working` and `pool` take a reader of
--- lists/specs/Lent first: when the call begins, when it is over, or plain lists. `set_of` and `columns_of` read lists that are lent as one.
+-- What a call is lent, gathered as the records of `model`'s definitions. `set`, `columns`, `state`, `working` and `pool` take first
+-- how each list is read: `plain` of lists/specs/Lent where it is a list itself. `set_of` and `columns_of` read lists that are lent as one.
 use Rattle.std.specs.Prelude.{List, [], ℕ, ◌+◌, ◌*◌, ◌≤◌, length, get_or}
 use Rattle.std.specs.Borrow.{Bor}
 use Rattle.lists.specs.Lists.{tab}
