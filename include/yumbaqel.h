@@ -31,7 +31,7 @@
 extern "C" {
 #endif
 
-#define YUMBAQEL_VERSION 30400           /* of this header, 3.4.0: major x 10,000 + minor x 100 + patch */
+#define YUMBAQEL_VERSION 30300           /* of this header, 3.3.0: major x 10,000 + minor x 100 + patch */
 #define YUMBAQEL_SCALE 1073741824        /* one whole, 2^30 */
 #define YUMBAQEL_HIGHEST 1000000000      /* the highest concentration, ng/L */
 #define YUMBAQEL_MOST_SEGMENTS 1024

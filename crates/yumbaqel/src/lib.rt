@@ -734,10 +734,10 @@ pub extern "C" fn yumbaqel_most_horizon() -> u32
     forecast_claim::most_horizon()
 }
 
-// The version of this interface, 3.4.0: the first number times 10,000, the second times 100 and the third.
+// The version of this interface, 3.3.0: the first number times 10,000, the second times 100 and the third.
 #[unsafe(no_mangle)]
 pub extern "C" fn yumbaqel_version() -> u32
-    ensures { result ≡ 30400 }
+    ensures { result ≡ 30300 }
 {
-    30400
+    30300
 }
