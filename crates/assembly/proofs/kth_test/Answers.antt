@@ -1,5 +1,5 @@
 -- `kth_test` meets its contract: each arm is an entry of the documents' list of tests. Assumes nothing.
-use mathlib.Core.Path.{sym}
+use mathlib.Core.Path.{◌≡◌, sym}
 use Prim.Native.Nat.{◌≤◌}
 use native.Mathlib.Omega.{arith}
 use lib.ListN.{get_or-eq_default}
@@ -10,7 +10,9 @@ use Rattle.assembly.proofs.LoadTests.{before-4, before-19, before-10, before-11,
 use Rattle.assembly.proofs.kth_test.Goals as goal
 
 pub bands_test-requires : goal.bands_test-requires
-bands_test-requires c = before-19 c.args.sheet.now (rw c.in-9.is at c.requires)
+bands_test-requires c =
+    let nine : c.args.k ≡ 9 = omega arith in
+    before-19 c.args.sheet.now (rw nine at c.requires)
 
 pub flows_test-requires : goal.flows_test-requires
 flows_test-requires c =
