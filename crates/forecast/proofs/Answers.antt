@@ -27,7 +27,7 @@ module _ (sheet : List ℕ) (live : Live) (lent : Room) (asked : Question) where
       result_left a (state plain c z w) upstream steps highest working
       ≡ forecast_of (ahead_tests sheet live (lent_with lent upstream steps) asked) sheet live (lent_with lent upstream steps) asked
   unfolding forecast_left copied write_figures
-  looked-result l upstream steps pass = rw (pass, l.answer_is, ← l.left-is)
+  looked-result l upstream steps pass = rw (pass, l.answer_is, ← l.left_is)
 
   pub looked-sides : {a : Outcome Foreseen} {c z w highest sides : List ℕ} {working : Working} → Looked sheet live lent asked a c z w highest sides working →
       SidesLeft a sheet lent.sides sides
