@@ -40,7 +40,7 @@ behind-requires c = (sym c.river_test-test.ensures ∙ ap finding_says c.in_defa
 
 pub returns-clause-result : goal.returns-clause-result
 returns-clause-result c = λ upstream steps. c.behind.ensures.result upstream steps
-          ∙ pool-passes _ (pool plain c.args.channel.now c.args.storage.now c.args.sediment.now c.args.table.now) c.args.river c.args.highest.now (room (state plain c.args.channel1.now c.args.storage1.now c.args.sediment1.now upstream steps) c.args.highest1.now c.args.sides.now (working plain c.args.p.now c.args.y.now)) (question c.args.gauge c.args.limit c.args.horizon) (sym c.river_test-test.ensures ∙ ap finding_says c.in_default.is) (sym c.pool_test-shared.ensures ∙ ap finding_says c.in_default-shared.is) (slot_says c.taken-x.result) c.taken-x.ensures
+    ∙ pool-passes _ (pool plain c.args.channel.now c.args.storage.now c.args.sediment.now c.args.table.now) c.args.river c.args.highest.now (room (state plain c.args.channel1.now c.args.storage1.now c.args.sediment1.now upstream steps) c.args.highest1.now c.args.sides.now (working plain c.args.p.now c.args.y.now)) (question c.args.gauge c.args.limit c.args.horizon) (sym c.river_test-test.ensures ∙ ap finding_says c.in_default.is) (sym c.pool_test-shared.ensures ∙ ap finding_says c.in_default-shared.is) (slot_says c.taken-x.result) c.taken-x.ensures
 
 pub returns-clause-sides : goal.returns-clause-sides
 returns-clause-sides c = c.behind.ensures.sides

@@ -1,0 +1,8 @@
+-- `yumbaqel_start` meets its contract.
+use Rattle.yumbaqel.proofs.Handed.{told-left}
+use Rattle.yumbaqel.proofs.yumbaqel_start.Goals as goal
+
+pub returns : goal.returns
+returns c =
+    let put = c.put_river.ensures in
+    rw (put.upstream, put.done) (told-left (c.start-answer.ensures _ _) put.told)
