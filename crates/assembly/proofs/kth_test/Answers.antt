@@ -3,6 +3,7 @@ use mathlib.Core.Path.{◌≡◌, sym}
 use Prim.Native.Nat.{◌≤◌}
 use native.Mathlib.Omega.{arith}
 use lib.ListN.{get_or-eq_default}
+use borrow.Author.Rules.{rules}
 use Rattle.model.specs.Refusals.{passes}
 use Rattle.model.specs.Load.{sheet_tests, course_tests, river_tests}
 use Rattle.course.specs.Segments.{site_fault}
@@ -32,7 +33,7 @@ returns-in-0 c = rw c.in-0.is (rw c.edition.ensures at c.finding.ensures)
 
 pub returns-in-1 : goal.returns-in-1
 unfolding sheet_tests
-returns-in-1 c = rw c.in-1.is c.walk.ensures
+returns-in-1 c = rw c.in-1.is (search rules)
 
 pub returns-in-2 : goal.returns-in-2
 unfolding sheet_tests
@@ -58,11 +59,11 @@ returns-in-6 c = rw c.in-6.is (rw c.steps.ensures at c.entries_test.ensures)
 
 pub returns-in-7 : goal.returns-in-7
 unfolding sheet_tests
-returns-in-7 c = rw c.in-7.is (rw c.segment_count-in-7.ensures at c.entries_test-in-7.ensures)
+returns-in-7 c = rw c.in-7.is (cc)
 
 pub returns-in-8 : goal.returns-in-8
 unfolding sheet_tests
-returns-in-8 c = rw c.in-8.is (rw c.steps-in-8.ensures at c.entries_test-in-8.ensures)
+returns-in-8 c = rw c.in-8.is (cc)
 
 pub returns-in-9 : goal.returns-in-9
 unfolding sheet_tests
