@@ -527,15 +527,18 @@ class Trial:
         for reach, bands in zip(found.reaches, found.bands):
             rising = sorted((band.lowest, band.A * band.D) for band in bands) or [(0, reach.AD)]
             self.bands += [([low for low, _ in rising], [AD for _, AD in rising])] * reach.segments
+        self.AD = None if any(found.bands) else [ADs[0] for _, ADs in self.bands]       # where no flow changes it
 
     def refused_at(self, header: Header, first: int = 0, count: Optional[int] = None) -> Optional[int]:
         """The segment, counted from 0, that they refuse of so many from the first on, or of all; nothing where they pass."""
         count = len(self.gains) if count is None else count
         around = slice(first, first + count + 1)                # the segment below has its AD too
-        Q = [model.flow(header, gain) for gain in self.gains[around]]
+        Q = model.flows_with(header, self.gains[around])
         try:
-            model.test_flows([Q])
-            AD = [ADs[bisect_right(lows, flow) - 1] for (lows, ADs), flow in zip(self.bands[around], Q)]
+            if not (model.FLOW.holds(min(Q)) and model.FLOW.holds(max(Q))):     # else each flow holds
+                model.test_flows([Q])
+            AD = self.AD[around] if self.AD else [
+                ADs[bisect_right(lows, flow) - 1] for (lows, ADs), flow in zip(self.bands[around], Q)]
             model.test_dispersion(header.dx, [Q[:count]], [list(zip(AD, AD, AD[1:] + AD[-1:]))])
         except Refusal as refusal:
             return first + refusal.place[1] - 1

@@ -376,13 +376,14 @@ def gains(own: list[Reach]) -> list[int]:
     return [2 * before + here for before, here in zip(accumulate(net, initial=0), net)]
 
 
-def flow(header: Header, twice: int) -> int:
-    """The flow at a segment's middle: top flow plus the gain down to there, given twice, rounded down once."""
-    return header.top_flow + twice * header.dx // (2 * LATERAL)
+def flows_with(header: Header, twice: list[int]) -> list[int]:
+    """The flow at each segment's middle: top flow plus the gain down to there, given twice, rounded down once."""
+    top, dx = header.top_flow, header.dx
+    return [top + gain * dx // (2 * LATERAL) for gain in twice]
 
 
 def flows(header: Header, own: list[Reach]) -> list[int]:
-    return [flow(header, gain) for gain in gains(own)]
+    return flows_with(header, gains(own))
 
 
 def reach_at(reach: Reach, bands: list[Band], Q: int) -> Reach:
