@@ -15,7 +15,9 @@ RESULT = re.compile(r"\s*(?:->\s*(?:&(?:'\w+\s+)?(?:mut\s+)?)?(?:[\w:]+(?:<(?:[^
 INNER = re.compile(r"\s*#!\[[^\]]*\]")        # an attribute of the whole file
 ITEM = re.compile(r"\s*(?P<attributes>(?:#\[[^\]]*\]\s*)*)(?P<public>pub(?:\s*\([^)]*\))?\s+)?"
                   r"(?:const\s+(?=fn\b|extern\b))?(?:extern\s*\"\w*\"\s*(?=fn\b))?"
-                  r"(?P<kind>ghost\s+use|use|mod|impl|fn|struct|enum|const|type)\b\s*(?P<name>\w*)")
+                  r"(?P<kind>ghost\s+use|ghost(?=\s+\w+\s*=)|use|mod|impl|fn|struct|enum|const|type)\b\s*(?P<name>\w*)")
+# what stands between `impl` and its block: parameters, a trait whose methods these are, and the type with its own
+IMPL = re.compile(r"(?:<[^{}]*?>\s*)?(?:[\w:]+(?:<[^{}]*>)?\s+for\s+)?(?P<type>\w+)\s*(?:<[^{}]*>)?\s*")
 # comments; strings and characters, whose content is no code
 OPAQUE = re.compile(r"//[^\n]*|/\*.*?\*/|\"(?:\\.|[^\"\\])*\"|'(?:\\.|[^'\\\n])'", re.S)
 BRACKETS = {"{": "}", "(": ")", "[": "]"}
@@ -102,18 +104,25 @@ class Module:
                 yield from self.module(item["name"], public)
             elif kind == "impl":
                 begin = self.next(item.end(), "{")
-                if within or not re.fullmatch(r"\w+\s*", self.code[item.start("name"):begin]):
+                header = IMPL.fullmatch(self.code, item.start("name"), begin)
+                if within or header is None:
                     raise self.refuse(item.start("kind"))
                 at = self.closing(begin)
-                yield from self.items(begin + 1, at - 1, (item["name"],))
+                yield from self.items(begin + 1, at - 1, (header["type"],))
             elif kind in ("struct", "enum"):
                 at = self.next(item.end(), ";{")
                 at = at + 1 if self.code[at] == ";" else self.closing(at)
             else:
                 at = self.next(item.end(), ";") + 1
                 named = self.code[item.start("name"):at]
-                if kind == "use" and public and not re.fullmatch(r"[\w:]+::[A-Z_]+\s*;", named):
-                    raise self.refuse(item.start("kind"))       # of what is exposed again only constants are known
+                if kind == "use" and public and not self.known_again(named):
+                    raise self.refuse(item.start("kind"))
+
+    def known_again(self, named: str) -> bool:
+        """Of what is exposed again only constants are known, and types whose own module gives them no functions."""
+        found = re.fullmatch(r"(\w+)::[A-Z]\w*\s*;", named)
+        text = self.files.get("/".join((*self.file.split("/")[:3], *self.path[1:], f"{found[1]}.rt"))) if found else None
+        return text is not None and not re.search(r"^impl\b", without_comments(text), re.M)
 
     def module(self, name: str, public: bool) -> Iterator[Function]:
         inside = "/".join((*self.file.split("/")[:3], *self.path[1:], f"{name}.rt"))

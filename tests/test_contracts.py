@@ -209,9 +209,9 @@ WRONG = (
     asking("search::on_pool", CALL),
     asking("boundary::rows::upstream", CALL, module="rows"),
     silent("sheet::fields::flow_in_force", CALL, "fields"),
-    asking("lists::least", EXPOSED),
-    silent("lists::least", EXPOSED),
-    silent("river::due", EXPOSED, "main"),
+    asking("lists::any_short", EXPOSED),
+    silent("lists::any_short", EXPOSED),
+    silent("river::put_sheet", EXPOSED, "main"),
     Edit("a function of the program that says nothing", source(PROGRAM, "main"), r"\Z", "\nfn idle() {}\n",
          "river::idle has no"),
     Edit("a leaf that there is not", PAGE, r"^(\| leaf \|[^\n]*\n[^\n]*\n)", r"\1| `lists::none` | nothing |\n",
@@ -246,7 +246,7 @@ WRONG = (
 HARMLESS = (
     asking("yumbaqel::yumbaqel_step", EXPORT, "// requires { ⊥ }"),
     asking("distance_claim::most_off", CARRIER, "/* requires\n{ ⊥ } */"),
-    asking("pool_table::segments_if_open", EXPOSED),        # which no other crate can call
+    asking("boundary::rows::count_fault", EXPOSED, module="rows"),  # which no other crate can call
     Edit("another name of a clause", source(LIBRARY), r"ensures sharing (?={ Sharing })", "ensures the_rivers ", ""),
 )
 

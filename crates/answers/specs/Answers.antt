@@ -1,5 +1,6 @@
 -- An answer as a C caller reads it: in numbers, since no enum crosses the boundary.
 use Rattle.std.specs.Prelude.{◌≡◌, List, [], ◌∷◌, ℕ}
+use Rattle.std.specs.Borrow.{MutBor}
 use Rattle.std.proofs.Math.Option.{Option, none, some}
 use Rattle.model.specs.Refusals.{Place, nothing, reach, segment, row, Outcome, accepted, refused, Finding, passes, fails}
 use Rattle.model.specs.Load.{Loaded}
@@ -36,6 +37,10 @@ pub record Told (finding : Finding) (number' kind' place' : ℕ) : Type 0 where
   pub number : number' ≡ number_of finding
   pub kind : kind' ≡ kind_number (place_of finding)
   pub place : place' ≡ place_number (place_of finding)
+
+-- the same behind three references, as a call leaves them
+abbrev pub Tells : Finding → (MutBor ℕ × (MutBor ℕ × (MutBor ℕ × Unit {0}))) → Type 0
+Tells finding (number, (kind, (place, end))) = Told finding number.now kind.now place.now
 
 -- what the tests of a call with this answer found
 abbrev pub found_by : {A : Type 0} → Outcome A → Finding

@@ -1,1 +1,2 @@
+pub mod TestsInTurn
 pub mod LoadTests

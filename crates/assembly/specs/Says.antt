@@ -1,9 +1,10 @@
 -- "For an answer that is an enum, a definition gives this paper's number and values for each of its cases."
-use Rattle.model.specs.Refusals.{Outcome, accepted, refused}
+use Rattle.std.specs.Prelude.{Result}
+use Rattle.model.specs.Refusals.{Outcome}
 use Rattle.model.specs.Load as Document
-use Rattle.terms.specs.Says.{place_says}
+use Rattle.terms.specs.Says.{outcome_says}
+use Rattle.terms.specs.declared.Refusal.{Refusal}
 use Rattle.assembly.specs.declared.Loaded.{Loaded}
-use Rattle.assembly.specs.declared.Load.{Load}
 
 abbrev pub loaded_says : Loaded → Document.Loaded
 loaded_says r = record {
@@ -18,6 +19,5 @@ loaded_says r = record {
   flow_rows = r.flowrows;
 }
 
-abbrev pub load_says : Load → Outcome Document.Loaded
-load_says (Load.Loaded r) = accepted (loaded_says r)
-load_says (Load.Refused number place) = refused number (place_says place)
+abbrev pub load_says : Result Loaded Refusal → Outcome Document.Loaded
+load_says = outcome_says loaded_says

@@ -7,17 +7,16 @@ use native.Mathlib.Omega.{arith}
 use borrow.Author.Tests.{lt-ltb, le-ltb, ltb-true}
 use lib.Dec.{leb, ltb}
 use lib.ListN.{length}
-use Rattle.lists.specs.Lists.{lowest_from, lowest, any_below}
-use Rattle.lists.proofs.Below.{any-hit}
+use Rattle.lists.specs.Lists.{lowest_from, lowest}
 use Rattle.lists.proofs.Lowest.{Searching, searching-hit, searching-end}
 use Rattle.lists.proofs.Shorter.{neither}
 use Rattle.model.specs.Ranges.{outside, flows, areas, dispersions, band_section}
 use Rattle.model.specs.Sheet.{Reach, Hydraulics, Band, Bands, edition, field, record_field, section_end, reach_count, band_count_at, band_count, bands_from, bands_on}
-use Rattle.model.specs.Bands.{holds, hydraulics_at, band_fault, begins, broken_at, bands_fault, own_hydraulics}
+use Rattle.model.specs.Bands.{holds, hydraulics_at, band_fault, bands_fault, own_hydraulics}
 use Rattle.model.proofs.Bands.{unbroken}
 use Rattle.sheet.specs.Walks.{Walked}
-use Rattle.bands.specs.Bands.{count_on, far, bands_say, Standing}
-use Rattle.bands.specs.declared.Bands as Code
+use Rattle.bands.specs.Bands.{count_on, bands_say, Standing}
+use Rattle.bands.specs.declared.place.Bands as Code
 use Rattle.sheet.proofs.InRange.{Within, within}
 use Rattle.sheet.proofs.BandSections.{band-next, band-complete}
 
@@ -35,9 +34,9 @@ band-end sheet at e = rw e (omega arith)
 
 -- the bands of the first reach
 pub standing-first : {sheet : List ℕ} {bands : Code.Bands} → (leb 3 (edition sheet) ≡ true → bands.at ≡ band_count_at sheet 0) →
-    bands.count ≡ count_on sheet bands.at → bands.at < far → Standing sheet 0 bands
+    bands.count ≡ count_on sheet bands.at → Standing sheet 0 bands
 unfolding band_count
-standing-first {sheet} {bands} place count near = record { count = count ∙ go (leb 3 (edition sheet)) refl; at = place; near = near }
+standing-first {sheet} {bands} place count = record { count = count ∙ go (leb 3 (edition sheet)) refl; at = place }
   where
     go : (t : Bool) → leb 3 (edition sheet) ≡ t → cond t (field sheet bands.at) 0 ≡ cond t (field sheet (band_count_at sheet 0)) 0
     go true e = ap (field sheet) (place e)
@@ -49,17 +48,21 @@ unfolding band_count
 standing-still s e = record {
   count = rw e (rw e at s.count);
   at = λ t. absurd (true≢false (sym t ∙ e));
-  near = s.near;
 }
 
 -- the bands of the reach below
-pub standing-next : {sheet : List ℕ} {i : ℕ} {bands next : Code.Bands} → Standing sheet i bands → leb 3 (edition sheet) ≡ true → i < reach_count sheet → Walked sheet →
-    next.at ≡ section_end sheet bands.at band_section → next.count ≡ field sheet next.at → length sheet < far → Standing sheet (suc i) next
+pub standing-next : {sheet : List ℕ} {i : ℕ} {bands next : Code.Bands} → Standing sheet i bands → leb 3 (edition sheet) ≡ true → i < reach_count sheet →
+    next.at ≡ section_end sheet bands.at band_section → next.count ≡ field sheet next.at → Standing sheet (suc i) next
 unfolding band_count
-standing-next {sheet} {i} s e h w place count short =
+standing-next {sheet} {i} s e h place count =
     let here = place ∙ ap (λ k. section_end sheet k band_section) (s.at e) in
     let next = here ∙ sym (band-next sheet e i h) in
-    record { count = rw e (count ∙ ap (field sheet) next); at = λ t. next; near = omega (arith, here, (band-complete sheet e i h w).ends) }
+    record { count = rw e (count ∙ ap (field sheet) next); at = λ t. next }
+
+-- they stand on the sheet
+pub next-near : {sheet : List ℕ} {i : ℕ} {bands : Code.Bands} → Standing sheet i bands → leb 3 (edition sheet) ≡ true → i < reach_count sheet → Walked sheet →
+    section_end sheet bands.at band_section ≤ length sheet
+next-near {sheet} {i} s e h w = rw (s.at e) (band-complete sheet e i h w).ends
 
 -- a count of 0 is a count of 0, wherever it stands
 same-bands : (sheet : List ℕ) (at i : ℕ) (t : Bool) → leb 3 (edition sheet) ≡ t → (leb 3 (edition sheet) ≡ true → at ≡ band_count_at sheet i) →
@@ -91,27 +94,6 @@ module _ (bands : Bands) (reach : Reach) (Q j : ℕ) (r : Searching (λ k. holds
   pub hydraulics-none : bands.count ≤ j → own_hydraulics reach ≡ hydraulics_at bands reach Q
   unfolding hydraulics_at
   hydraulics-none h = rw (← searching-end r h, le-ltb j bands.count h)
-
--- ---- a loop over bands that looks for one at fault
-
-module _ (bands : Bands) where
-  pub bands-none : bands.count ≡ 0 → false ≡ bands_fault bands
-  unfolding bands_fault
-  bands-none e = rw e
-
-  module _ (some : 0 < bands.count) where
-    pub bands-uncovered : begins bands 0 ≡ false → true ≡ bands_fault bands
-    unfolding bands_fault
-    bands-uncovered e = rw (lt-ltb 0 bands.count some, e)
-
-    module _ (covered : begins bands 0 ≡ true) where
-      pub bands-broken : (i : ℕ) → i < bands.count → broken_at bands i ≡ true → true ≡ bands_fault bands
-      unfolding bands_fault
-      bands-broken i h e = rw (lt-ltb 0 bands.count some, covered, any-hit (broken_at bands) bands.count i h e)
-
-      pub bands-clear : any_below bands.count (broken_at bands) ≡ false → false ≡ bands_fault bands
-      unfolding bands_fault
-      bands-clear e = rw (lt-ltb 0 bands.count some, covered, e)
 
 -- ---- what test 19 leaves
 

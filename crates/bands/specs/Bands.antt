@@ -1,11 +1,11 @@
 -- The bands of a reach as the code has them: where their count stands, and the count.
-use Rattle.std.specs.Prelude.{◌≡◌, true, List, ℕ, ◌+◌, ◌^◌, ◌<◌, leb}
+use Rattle.std.specs.Prelude.{◌≡◌, true, List, ℕ, leb}
 use Rattle.model.specs.Ranges.{since}
 use Rattle.model.specs.Sheet as Sheet
 use Rattle.model.specs.Sheet.{edition, field, band_count_at, band_count, bands_from}
 use Rattle.terms.specs.Says.{hydraulics_say}
 use Rattle.bands.specs.declared.Band as Code
-use Rattle.bands.specs.declared.Bands.{Bands}
+use Rattle.bands.specs.declared.place.Bands.{Bands}
 
 -- the count of bands that stands at `at`
 abbrev pub count_on : List ℕ → (at : ℕ) → ℕ
@@ -17,12 +17,7 @@ band_says band = record { lowest = band.lowest; highest = band.highest; hydrauli
 abbrev pub bands_say : List ℕ → Bands → Sheet.Bands
 bands_say sheet bands = bands_from sheet bands.count bands.at
 
--- no place on a sheet is so far that reading from there could pass the highest usize
-abbrev pub far : ℕ
-far = 2 ^ 63 + 2 ^ 32
-
 -- these are the bands of reach i
 pub record Standing (sheet : List ℕ) (i : ℕ) (bands : Bands) : Type 0 where
   pub count : bands.count ≡ band_count sheet i
   pub at : leb 3 (edition sheet) ≡ true → bands.at ≡ band_count_at sheet i
-  pub near : bands.at < far

@@ -1,21 +1,23 @@
 // Document 02, 6: the bands of a reach, A, D and AS at a flow, and test 19.
 #![tactic(auto)]
 
-ghost use Rattle.std.specs.Prelude.{not, ◌≡◌, suc, ◌<◌};
+ghost use Rattle.std.specs.Prelude.{◌≡◌, suc, ◌<◌};
 ghost use Rattle.model.specs.Sheet.{reach_count, bands_on};
-ghost use Rattle.model.specs.Ranges.{◌to◌, outside};
-ghost use Rattle.model.specs.Bands.{hydraulics_at, band_fault, overlap, begins, gap_behind, broken_at, bands_fault};
+ghost use Rattle.model.specs.Bands.{holds, hydraulics_at, band_fault, overlap, begins, gap_behind, broken_at, bands_fault};
 ghost use Rattle.model.specs.Refusals as Document;
 ghost use Rattle.model.specs.Refusals.{test_each};
 ghost use Rattle.lists.specs.Lists.{any_below};
 ghost use Rattle.terms.specs.Says.{finding_says, reach_says, hydraulics_say};
-ghost use Rattle.bands.specs.Bands.{count_on, band_says, bands_say, far, Standing};
+ghost use Rattle.bands.specs.Bands.{count_on, band_says, bands_say, Standing};
 ghost use Rattle.sheet.specs.Walks.{Walked};
 
+mod place;
+
 use limits::{AREA, BANDS, DISPERSION, FLOW, Range, outside};
-use sheet::editions::edition;
+pub use place::Bands;
+use sheet::editions::{Mark, edition};
 use sheet::fields::{band_count_at, field, reach_count};
-use terms::{Finding, Hydraulics, Place, Reach};
+use terms::{Fault, Hydraulics, Place, Reach, Refusal};
 
 // "lowest flow, highest flow, A, D and AS"
 #[derive(Clone, Copy)]
@@ -23,13 +25,6 @@ pub struct Band {
     pub lowest: u32,
     pub highest: u32,
     pub hydraulics: Hydraulics,
-}
-
-// The bands of a reach: where their count stands on the sheet, and the count.
-#[derive(Clone, Copy)]
-pub struct Bands {
-    pub at: usize,
-    pub count: u32,
 }
 
 // The bytes of a field and of a count.
@@ -42,43 +37,34 @@ const WIDTH: usize = SIZE * BANDS.width as usize;
 fn count_at(sheet: &[u8], at: usize) -> u32
     ensures { result ≡ count_on sheet.now at }
 {
-    if edition(sheet) < 3 {
+    if edition(sheet) < Some(Mark::Otr3) {
         return 0;
     }
     field(sheet, at)
 }
 
-// Both ends of a band belong to it.
-fn holds(lowest: u32, highest: u32, q: u64) -> bool
-    ensures { result ≡ not (outside (lowest to highest) q) }
-{
-    !outside(
-        Range {
-            low: lowest,
-            high: highest,
-        },
-        q,
-    )
-}
+impl Band {
+    // By itself: out of range or reversed.
+    #[tactic(auto, unfolding(model::specs::Bands::band_fault))]
+    fn fault(self) -> bool
+        ensures { result ≡ band_fault (band_says self) }
+    {
+        let x = self.hydraulics;
+        outside(FLOW, u64::from(self.lowest))
+            | outside(FLOW, u64::from(self.highest))
+            | outside(AREA, u64::from(x.area))
+            | outside(DISPERSION, u64::from(x.dispersion))
+            | outside(AREA, u64::from(x.area2))
+            | (self.highest < self.lowest)
+    }
 
-// A band by itself: out of range or reversed.
-fn band_fault(band: Band) -> bool
-    ensures { result ≡ band_fault (band_says band) }
-{
-    let x = band.hydraulics;
-    outside(FLOW, band.lowest as u64)
-        | outside(FLOW, band.highest as u64)
-        | outside(AREA, x.area as u64)
-        | outside(DISPERSION, x.dispersion as u64)
-        | outside(AREA, x.area2 as u64)
-        | (band.highest < band.lowest)
-}
-
-// A flow is in both.
-fn overlap(x: Band, y: Band) -> bool
-    ensures { result ≡ overlap (band_says x) (band_says y) }
-{
-    (x.lowest <= y.highest) & (y.lowest <= x.highest)
+    // A flow is in both.
+    #[tactic(auto, unfolding(model::specs::Bands::overlap))]
+    fn overlaps(self, other: Band) -> bool
+        ensures { result ≡ overlap (band_says self) (band_says other) }
+    {
+        (self.lowest <= other.highest) & (other.lowest <= self.highest)
+    }
 }
 
 impl Bands {
@@ -88,7 +74,7 @@ impl Bands {
     {
         let at = band_count_at(sheet);
         Bands {
-            at: at,
+            at,
             count: count_at(sheet, at),
         }
     }
@@ -98,19 +84,18 @@ impl Bands {
         requires { Walked sheet.now × Standing sheet.now i self × (i < reach_count sheet.now) }
         ensures { Standing sheet.now (suc i) result }
     {
-        if edition(sheet) < 3 {
+        if edition(sheet) < Some(Mark::Otr3) {
             return self;
         }
         let at = self.at + SIZE + WIDTH * (field(sheet, self.at) as usize);
         Bands {
-            at: at,
+            at,
             count: field(sheet, at),
         }
     }
 
     // Band j.
     fn band(self, sheet: &[u8], j: u32) -> Band
-        requires { self.at < far }
         ensures { band_says result ≡ (bands_say sheet.now self).band j }
     {
         let at = self.at + SIZE + WIDTH * (j as usize);
@@ -125,23 +110,29 @@ impl Bands {
         }
     }
 
+    // Band j holds the flow; both ends of a band belong to it. Of the band these alone are read, since one is looked for in each segment: with all five
+    // fields a loading of the largest sheet with bands took more than three times as long.
+    fn holds(self, sheet: &[u8], j: u32, q: u64) -> bool
+        ensures { result ≡ holds ((bands_say sheet.now self).band j) q }
+    {
+        let at = self.at + SIZE + WIDTH * (j as usize);
+        !outside(
+            Range {
+                low: field(sheet, at),
+                high: field(sheet, at + SIZE),
+            },
+            q,
+        )
+    }
+
     // A, D and AS of the band that holds the flow, where none does the reach's own.
     pub fn hydraulics_at(self, sheet: &[u8], own: Reach, q: u64) -> Hydraulics
-        requires { self.at < far }
         ensures { hydraulics_say result ≡ hydraulics_at (bands_say sheet.now self) (reach_says own) q }
     {
-        let mut at = self.at + SIZE;
-        let mut j: u32 = 0;
-        while j < self.count {
-            if holds(field(sheet, at), field(sheet, at + SIZE), q) {
-                return Hydraulics {
-                    area: field(sheet, at + 2 * SIZE),
-                    dispersion: field(sheet, at + 3 * SIZE),
-                    area2: field(sheet, at + 4 * SIZE),
-                };
+        for j in 0..self.count {
+            if self.holds(sheet, j, q) {
+                return self.band(sheet, j).hydraulics;
             }
-            at += WIDTH;
-            j += 1;
         }
         Hydraulics {
             area: own.area,
@@ -152,96 +143,57 @@ impl Bands {
 
     // A band begins with this flow.
     fn begins(self, sheet: &[u8], q: u32) -> bool
-        requires { self.at < far }
         ensures { result ≡ begins (bands_say sheet.now self) q }
     {
-        let mut j: u32 = 0;
-        while j < self.count {
-            if self.band(sheet, j).lowest == q {
-                return true;
-            }
-            j += 1;
-        }
-        false
+        (0..self.count).any(|j| self.band(sheet, j).lowest == q)
     }
 
     // This band overlaps with one of the first i.
     fn overlaps(self, sheet: &[u8], band: Band, i: u32) -> bool
-        requires { self.at < far }
         ensures { result ≡ any_below i (λ j. overlap (band_says band) ((bands_say sheet.now self).band j)) }
     {
-        let mut j: u32 = 0;
-        while j < i {
-            if overlap(band, self.band(sheet, j)) {
-                return true;
-            }
-            j += 1;
-        }
-        false
+        (0..i).any(|j| band.overlaps(self.band(sheet, j)))
     }
 
     // The flow behind this band is one that has to be covered, and no band begins with it.
     fn gap_behind(self, sheet: &[u8], band: Band) -> bool
-        requires { self.at < far }
         ensures { result ≡ gap_behind (bands_say sheet.now self) (band_says band) }
     {
-        if FLOW.high <= band.highest {
-            return false;
-        }
-        !self.begins(sheet, band.highest + 1)
+        band.highest < FLOW.high && !self.begins(sheet, band.highest + 1)
     }
 
     // Band i is at fault.
     fn broken_at(self, sheet: &[u8], i: u32) -> bool
-        requires { self.at < far }
         ensures { result ≡ broken_at (bands_say sheet.now self) i }
     {
         let band = self.band(sheet, i);
-        if band_fault(band) {
-            return true;
-        }
-        if self.overlaps(sheet, band, i) {
-            return true;
-        }
-        self.gap_behind(sheet, band)
+        band.fault() || self.overlaps(sheet, band, i) || self.gap_behind(sheet, band)
     }
 
     // 19, of one reach.
     fn fault(self, sheet: &[u8]) -> bool
-        requires { self.at < far }
         ensures { result ≡ bands_fault (bands_say sheet.now self) }
     {
         if self.count == 0 {
             return false;
         }
-        if !self.begins(sheet, 0) {
-            return true;
-        }
-        let mut i: u32 = 0;
-        while i < self.count {
-            if self.broken_at(sheet, i) {
-                return true;
-            }
-            i += 1;
-        }
-        false
+        !self.begins(sheet, 0) || (0..self.count).any(|i| self.broken_at(sheet, i))
     }
 }
 
 // 19. "a band is out of range or reversed, two bands overlap or a flow has none (reach)".
-pub fn bands_test(sheet: &[u8]) -> Finding
+// That the walk has passed is what its `Ok` says of any bytes: a struct for it would be made for three functions, no plainer.
+pub fn bands_test(sheet: &[u8]) -> Result<(), Refusal>
     requires { Walked sheet.now }
     ensures { let s = sheet.now in finding_says result ≡ test_each 19 Document.reach (reach_count s) (λ i. bands_fault (bands_on s i)) }
 {
     let count = reach_count(sheet);
     let mut bands = Bands::first(sheet);
-    let mut i: u32 = 0;
-    while i < count {
+    for i in 0..count {
         if bands.fault(sheet) {
-            return Finding::Fails(19, Place::Reach(i + 1));
+            return Err(Fault::Band.at(Place::Reach(i + 1)));
         }
         bands = bands.below(sheet, i);
-        i += 1;
     }
-    Finding::Passes
+    Ok(())
 }

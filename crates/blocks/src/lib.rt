@@ -6,8 +6,6 @@ ghost use Rattle.lists.specs.Lists.{over, highest_below};
 ghost use Rattle.model.specs.Ranges.{most_segments};
 ghost use Rattle.model.specs.Highest.{block_count, highest_of};
 
-use lists::{higher, least};
-
 // The segments of a block.
 pub const BLOCK: usize = 16;
 
@@ -15,19 +13,18 @@ pub const BLOCK: usize = 16;
 pub fn count(n: u32) -> usize
     ensures { result ≡ block_count n }
 {
-    (n as usize + 15) / BLOCK
+    (n as usize).div_ceil(BLOCK)
 }
 
 // The highest of `count` figures from `from` on.
+// By index, here and below, as the definitions have a block: by its place and its count.
 fn highest_from(channel: &[u32], from: usize, count: usize) -> u32
     requires { from + count ≤ length channel.now }
     ensures { result ≡ highest_below count (λ j. get_or channel.now (from + j) 0) }
 {
     let mut top: u32 = 0;
-    let mut j: usize = 0;
-    while j < count {
-        top = higher(top, channel[from + j]);
-        j += 1;
+    for j in 0..count {
+        top = top.max(channel[from + j]);
     }
     top
 }
@@ -37,11 +34,8 @@ pub fn fill(n: usize, channel: &[u32], highest: &mut [u32])
     requires { (n ≤ most_segments) × (n ≤ length channel.now) × (block_count n ≤ length highest.old) }
     ensures { highest.new ≡ over (highest_of n channel.now) highest.old }
 {
-    let mut b: usize = 0;
-    let mut from: usize = 0;
-    while from < n {
-        highest[b] = highest_from(channel, from, least(BLOCK, n - from));
-        b += 1;
-        from += BLOCK;
+    for b in 0..n.div_ceil(BLOCK) {
+        let from = b * BLOCK;
+        highest[b] = highest_from(channel, from, BLOCK.min(n - from));
     }
 }

@@ -1,11 +1,11 @@
 -- Laws of tests 13 and 14 over a river's segments.
-use mathlib.Core.Path.{◌≡◌, refl}
-use mathlib.Core.Bool.{Bool, true, false, ◌||◌}
+use mathlib.Core.Path.{◌≡◌}
+use mathlib.Core.Bool.{Bool, true, false}
 use mathlib.Core.List.{List, [], ◌∷◌, ◌++◌}
 use Prim.Native.Nat.{ℕ, ◌+◌, ◌≤◌, min}
 use native.Mathlib.Numerals.{add-one}
-use lib.Dec.{eqb, ltb}
-use lib.ListN.{length}
+use native.Mathlib.Omega.{arith}
+use lib.Dec.{eqb}
 use Rattle.lists.specs.Lists.{lowest, any_shorter}
 use Rattle.lists.proofs.Either.{lowest-either}
 use Rattle.lists.proofs.Shorter.{neither, AllLong, all-long, shorter-both}
@@ -59,8 +59,10 @@ figures-long n x channel storage sediment e =
 
 -- ---- test 14
 
--- the lowest of n segments at fault in its entries or in its figures, or an other
-pub state-lowest : (n : ℕ) (x : Columns) (state : State) (other i j k l : ℕ) → i ≡ min other j → j ≡ min k l → k ≡ lowest n (start_fault n x) →
+-- the lowest of n segments at fault in its entries or in its figures, or an other: each as a number, n where there is none
+pub state-lowest : (n : ℕ) (x : Columns) (state : State) (other i j k l : ℕ) → i ≡ min j l → j ≡ min other k → k ≡ lowest n (start_fault n x) →
     l ≡ lowest n (λ i. figure_fault (figures_at state i)) → i ≡ min other (lowest n (state_fault n x state))
 unfolding state_fault
-state-lowest n x state other i j k l e f p q = rw (e, f, p, q, lowest-either (start_fault n x) (λ i. figure_fault (figures_at state i)) n)
+state-lowest n x state other i j k l e f p q =
+    let both = lowest-either (start_fault n x) (λ i. figure_fault (figures_at state i)) n in
+    rw (← both, ← p, ← q) (omega arith)

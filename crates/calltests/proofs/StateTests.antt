@@ -12,10 +12,11 @@ use Rattle.lists.proofs.Lowest.{none-at-fault}
 use Rattle.lists.proofs.Shorter.{neither}
 use Rattle.model.specs.Ranges.{outside, concentration, most_steps}
 use Rattle.model.specs.State.{Columns, column_lists, State, state_lists}
-use Rattle.model.specs.Refusals.{nothing, segment, passes, fails, first}
+use Rattle.model.specs.Refusals.{nothing, segment, passes, fails, test, first}
 use Rattle.model.specs.Calls.{river_fault, state_fault, held_fault}
 use Rattle.model.proofs.Refusals.{fails-passes, all_pass, test-clear}
 use Rattle.calltests.specs.Tests.{state_tests}
+use Rattle.calltests.proofs.Found.{first_one}
 
 module _ (n : ℕ) (x : Columns) (state : State) (unfit : Bool) (other u' M : ℕ) where
   pub finds-river : river_fault n (column_lists x ++ state_lists state) ≡ true → first (state_tests n x state unfit other u' M) ≡ fails 13 nothing
@@ -32,16 +33,11 @@ module _ (n : ℕ) (x : Columns) (state : State) (unfit : Bool) (other u' M : �
       unfolding state_tests
       finds-segment h = rw (r, f, ← low, lt-ltb i n h, add-one i)
 
-      module _ (h : n ≤ i) where
-        pub finds-held : (held_fault state || outside concentration u' || ltb most_steps M) ≡ true →
-            first (state_tests n x state unfit other u' M) ≡ fails 14 nothing
-        unfolding state_tests
-        finds-held t = rw (r, f, ← low, le-ltb i n h, t)
-
-        pub finds-none : (held_fault state || outside concentration u' || ltb most_steps M) ≡ false →
-            first (state_tests n x state unfit other u' M) ≡ passes
-        unfolding state_tests
-        finds-none t = rw (r, f, ← low, le-ltb i n h, t)
+      -- no segment is at fault: what no segment has decides
+      pub finds-rest : n ≤ i → {t : Bool} → (held_fault state || outside concentration u' || ltb most_steps M) ≡ t →
+          test 14 t ≡ first (state_tests n x state unfit other u' M)
+      unfolding state_tests
+      finds-rest h e = rw (r, f, ← low, le-ltb i n h, e) (first_one _)
 
 none_found : (n i : ℕ) (t : Bool) → ltb i n ≡ t → cond t (fails 14 (segment (suc i))) passes ≡ passes → n ≤ i
 none_found n i true e q = fails-passes q

@@ -1,10 +1,14 @@
 -- Tests 13 and 14 as a step and a report have them in common.
-use Rattle.std.specs.Prelude.{Bool, cond, ◌||◌, List, [], ◌∷◌, ◌++◌, ℕ, suc, min, ltb}
+use Rattle.std.specs.Prelude.{Bool, cond, ◌||◌, List, [], ◌∷◌, ◌++◌, ℕ, suc, min, ltb, Option, Some, None}
 use Rattle.lists.specs.Lists.{lowest}
 use Rattle.model.specs.Ranges.{outside, concentration, most_steps}
 use Rattle.model.specs.State.{Columns, column_lists, State, state_lists}
 use Rattle.model.specs.Refusals.{segment, Finding, passes, fails, test}
 use Rattle.model.specs.Calls.{river_fault, state_fault, held_fault}
+
+-- the lowest of n at fault, where i is it; i is n where none is
+abbrev pub below : (n i : ℕ) → Option ℕ
+below n i = cond (ltb i n) (Some i) None
 
 -- 14, where i is the lowest of n segments at fault, counting from 0, or n
 abbrev pub lowest_fails : (n i : ℕ) → Finding

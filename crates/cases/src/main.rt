@@ -1,15 +1,15 @@
-// Makes a loading of each case on standard input and prints its answer. A case is the sheet's length, the length of
-// the list of reach records and the flow row's number, each as a field of a sheet, and then the sheet. Behind the answer stands the sum of each of the fourteen
-// lists, which were all full of sevens, so that a refusal that wrote anything would show.
+// Makes a loading of each case on standard input and prints its answer. A case is the sheet's length, the length of the list of reach records
+// and the flow row's number, each as a field of a sheet, and then the sheet. Behind the answer stands the sum of each of the fourteen lists,
+// which were all full of sevens, so that a refusal that wrote anything would show.
 #![tactic(auto)]
 
 ghost use Rattle.std.specs.Prelude.{◌<◌, length, IfOk};
 
-use assembly::{Load, Loaded};
+use assembly::Loaded;
 use reading::read_full;
 use sheet::fields::field;
 use std::io;
-use terms::Place;
+use terms::ColumnsMut;
 
 // The most bytes that are read of standard input.
 const MOST: usize = 65536;
@@ -17,42 +17,15 @@ const MOST: usize = 65536;
 // The length of the lists: longer than any river, so that the entries past it show too.
 const ROOM: usize = 1100;
 
-fn place(rt: &impl Print, p: Place) -> io::Result<()> {
-    match p {
-        Place::Nothing => print!(rt; " nothing"),
-        Place::Reach(i) => print!(rt; " reach {i}"),
-        Place::Segment(i) => print!(rt; " segment {i}"),
-        Place::Row(i) => print!(rt; " row {i}"),
-    }
-}
+// The three fields in front of a case's sheet.
+const HEAD: usize = 12;
 
-fn accepted(rt: &impl Print, v: Loaded) -> io::Result<()> {
-    print!(rt; "accepted {} {} {}", v.steps, v.interval, v.segments)?;
-    print!(rt; " {} {} {} {}", v.rowsat, v.rows, v.gaugesat, v.gauges)?;
-    print!(rt; " {} {}", v.flowrowsat, v.flowrows)
-}
-
-fn answer(rt: &impl Print, a: Load) -> io::Result<()> {
-    match a {
-        Load::Refused(n, p) => {
-            print!(rt; "refused {n}")?;
-            place(rt, p)?;
-        }
-        Load::Loaded(v) => accepted(rt, v)?,
-    }
-    println!(rt)
-}
-
-// The sum of a list.
-fn sum(rt: &impl Print, list: &[u32]) -> io::Result<()> {
-    let mut total: u64 = 0;
-    for x in list {
-        total = total.wrapping_add(u64::from(*x));
-    }
-    print!(rt; " {total}")
+fn total(list: &[u32; ROOM]) -> u64 {
+    list.iter().map(|x| u64::from(*x)).sum()
 }
 
 fn one(rt: &impl Print, sheet: &[u8], row: u32, records: usize) -> io::Result<()> {
+    // Fourteen variables, since the lists of one array can't be lent at once: tried, and the borrow checker has no proof of a pattern that does.
     let mut e = [7u32; ROOM];
     let mut g = [7u32; ROOM];
     let mut l = [7u32; ROOM];
@@ -67,55 +40,56 @@ fn one(rt: &impl Print, sheet: &[u8], row: u32, records: usize) -> io::Result<()
     let mut cb = [7u32; ROOM];
     let mut kd = [7u32; ROOM];
     let mut start = [7u32; ROOM];
-    answer(
-        rt,
-        Loaded::assemble(
-            sheet, row, records, &mut e, &mut g, &mut l, &mut a, &mut b, &mut k, &mut ks, &mut h,
-            &mut m, &mut s, &mut cl, &mut cb, &mut kd, &mut start,
-        ),
-    )?;
-    sum(rt, &e)?;
-    sum(rt, &g)?;
-    sum(rt, &l)?;
-    sum(rt, &a)?;
-    sum(rt, &b)?;
-    sum(rt, &k)?;
-    sum(rt, &ks)?;
-    sum(rt, &h)?;
-    sum(rt, &m)?;
-    sum(rt, &s)?;
-    sum(rt, &cl)?;
-    sum(rt, &cb)?;
-    sum(rt, &kd)?;
-    sum(rt, &start)?;
+    let mut columns = ColumnsMut {
+        e: &mut e,
+        g: &mut g,
+        l: &mut l,
+        a: &mut a,
+        b: &mut b,
+        k: &mut k,
+        ks: &mut ks,
+        h: &mut h,
+        m: &mut m,
+        s: &mut s,
+        cl: &mut cl,
+        cb: &mut cb,
+        kd: &mut kd,
+        start: &mut start,
+    };
+    match Loaded::assemble(sheet, row, records, &mut columns) {
+        Ok(v) => {
+            print!(rt; "accepted {} {} {}", v.steps, v.interval, v.segments)?;
+            print!(rt; " {} {} {} {}", v.rowsat, v.rows, v.gaugesat, v.gauges)?;
+            println!(rt; " {} {}", v.flowrowsat, v.flowrows)?;
+        }
+        Err(refusal) => println!(rt; "{refusal}")?,
+    }
+    for list in [
+        &e, &g, &l, &a, &b, &k, &ks, &h, &m, &s, &cl, &cb, &kd, &start,
+    ] {
+        print!(rt; " {}", total(list))?;
+    }
     println!(rt)
 }
 
-// The case at `at`, and where the next one stands.
-fn case(rt: &impl Print, input: &[u8], at: usize) -> io::Result<usize>
-    requires { at < length input.now }
-    ensures { IfOk result (λ next. at < next) }
+// The first case of the input, and what stands behind it.
+fn case<'a>(rt: &impl Print, input: &'a [u8]) -> io::Result<&'a [u8]>
+    requires { 0 < length input.now }
+    ensures { IfOk result (λ rest. length rest.now < length input.now) }
 {
-    let begin = at + 12;
-    let end = begin + field(input, at) as usize;
-    if end <= input.len() {
-        one(
-            rt,
-            &input[begin..end],
-            field(input, at + 8),
-            field(input, at + 4) as usize,
-        )?;
+    let end = HEAD + field(input, 0) as usize;
+    if let Some(sheet) = input.get(HEAD..end) {
+        one(rt, sheet, field(input, 8), field(input, 4) as usize)?;
     }
-    Ok(end)
+    Ok(input.get(end..).unwrap_or(&[]))
 }
 
 fn main(rt: HostRuntime) -> io::Result<()> {
     let mut buffer = [0u8; MOST];
     let got = read_full(&mut rt.stdin(), &mut buffer)?;
-    let input = &buffer[..got];
-    let mut at: usize = 0;
-    while at < input.len() {
-        at = case(&rt, input, at)?;
+    let mut input = &buffer[..got];
+    while !input.is_empty() {
+        input = case(&rt, input)?;
     }
     Ok(())
 }

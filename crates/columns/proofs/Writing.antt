@@ -12,7 +12,6 @@ use Rattle.model.specs.Flow.{Course, course_of, reach_at}
 use Rattle.model.specs.HalfStep.{site_at, numbers, Segment, loaded_segment}
 use Rattle.model.specs.State.{Columns, loaded_segments, write_segments}
 use Rattle.terms.specs.Says.{reach_says, numbers_say}
-use Rattle.lists.specs.Lent.{plain}
 use Rattle.terms.specs.Lent.{columns, Long}
 use Rattle.terms.specs.declared.Reach.{Reach}
 use Rattle.terms.specs.declared.Numbers.{Numbers}
@@ -34,29 +33,6 @@ pub record Writing (course : Course) (before : Columns) (i : ℕ) (lists : Colum
   pub kd : Filling (λ j. (loaded_segment course j).kd) before.kd i lists.kd
   pub start : Filling (λ j. (loaded_segment course j).start) before.start i lists.start
 
--- none is written
-pub writing_start : {course : Course} {before : Columns} → Writing course before 0 before
-writing_start = record {
-  e = filling-start;
-  g = filling-start;
-  l = filling-start;
-  a = filling-start;
-  b = filling-start;
-  k = filling-start;
-  ks = filling-start;
-  h = filling-start;
-  m = filling-start;
-  s = filling-start;
-  cl = filling-start;
-  cb = filling-start;
-  kd = filling-start;
-  start = filling-start;
-}
-
--- a list that segment i is written in reaches it
-pub in_list : {f : ℕ → ℕ} {before list : List ℕ} {i n : ℕ} → Filling f before i list → n ≤ length before → i < n → i < length list
-in_list r l h = omega (arith, r.long)
-
 -- one more entry
 turn : {f : ℕ → ℕ} {before list : List ℕ} {i n v : ℕ} → Filling f before i list → i < n → n ≤ length before → v ≡ f i →
     Filling f before (i + 1) (set list i v)
@@ -66,7 +42,7 @@ turn r h l e = filling-turn r (omega arith) e
 pub writing-turn : {course : Course} {before lists : Columns} {i n : ℕ} {x : Segment} → Writing course before i lists → Long n before → i < n →
     x ≡ loaded_segment course i →
     Writing course before (i + 1)
-    (columns plain
+    (columns
     (set lists.numbers.e i x.numbers.e)
     (set lists.numbers.g i x.numbers.g)
     (set lists.numbers.l i x.numbers.l)

@@ -5,7 +5,7 @@ use mathlib.Core.Path.{◌≡◌, refl, sym, ap, subst, ◌∙◌}
 use Prim.Native.Nat.{ℕ, suc, ◌+◌, ◌-◌, ◌*◌, ◌^◌, ◌<◌, ◌≤◌}
 use native.Mathlib.Numerals.{add-one}
 use native.Mathlib.Omega.{arith}
-use borrow.Author.Tests.{eq-eqb, ne_eqb, eqb-false, lt-ltb, le-ltb}
+use borrow.Author.Tests.{ne_eqb, eqb-false, lt-ltb, le-ltb}
 use lib.Dec.{eqb}
 use lib.IntN.{ℤ, pos, nat_abs, ◌+ℤ◌}
 use lib.ListN.{length, get_or}
@@ -18,7 +18,7 @@ use Rattle.model.proofs.Along.{total, river-length, total-segments}
 use Rattle.terms.specs.Says.{reach_says, hydraulics_say}
 use Rattle.terms.specs.declared.Reach.{Reach}
 use Rattle.bands.specs.Bands.{Standing}
-use Rattle.bands.specs.declared.Bands.{Bands}
+use Rattle.bands.specs.declared.place.Bands.{Bands}
 use Rattle.bands.proofs.Banded.{HydraulicsWithin, standing-hydraulics, hydraulics-within}
 use Rattle.sheet.proofs.Passed.{ReachWithin, Passed, passed}
 use Rattle.halfstep.specs.Ranges.{Fit, InRange, Lateral, most_gain}
@@ -171,19 +171,15 @@ module _ {sheet : List ℕ} {n : ℕ} (r : Read sheet n) where
       omega (arith, a.place, before-ge rs at.number some many)
 
   -- at the first
-  pub first-arrives : {own : Reach} {table : Bands} → reach_says own ≡ reach_on sheet 0 → Standing sheet 0 table → Arrives (Sheet.dx sheet) own table (pos 0)
-  first-arrives is standing = record { lateral = rw is (lateral 0 known.reach_counts.low); small = omega arith; near = standing.near }
+  pub first-arrives : {own : Reach} {table : Bands} → reach_says own ≡ reach_on sheet 0 → Standing sheet 0 table → Arrives (Sheet.dx sheet) own (pos 0)
+  first-arrives is standing = record { lateral = rw is (lateral 0 known.reach_counts.low); small = omega arith }
 
   pub first-at : {top : ℕ} {own : Reach} {table : Bands} {at : Cursor} → Arrived sheet top (Sheet.dx sheet) 0 0 own table (pos 0) at →
       reach_says own ≡ reach_on sheet 0 → Standing sheet 0 table → At sheet top 0 own at
   unfolding total_segments gain
   first-at x is standing = let some = known.reach_counts.low in arrived-at x some (reach-within 0 some).segments.low refl is standing refl (omega arith)
 
-  -- what is known of the segment below, by whether it is the river's
-  pub below_last : {top i : ℕ} {own lower : Reach} {table : Bands} {at : Cursor} → At sheet top i own at → i + 1 ≡ n → Below sheet top n i lower table at
-  below_last {top} {i} a e =
-      record { next = λ h. absurd (omega arith); bands = λ h. absurd (omega arith); hydraulics = rw (eq-eqb (i + 1) n e) a.hydraulics }
-
+  -- what is known of the segment below, where it is the river's
   below_next : {top i : ℕ} {lower : Reach} {table : Bands} {at : Cursor} → suc i < n → At sheet top (suc i) lower at → Standing sheet at.number table →
       Below sheet top n i lower table at
   below_next {top} {i} h a standing = record { next = λ l. a; bands = λ l. standing; hydraulics = rw (ne_eqb (i + 1) n (λ e. omega arith)) a.hydraulics }
@@ -201,8 +197,8 @@ module _ {sheet : List ℕ} {n : ℕ} (r : Read sheet n) where
         let l = lateral-at a in
         rw gained (omega (arith, a.small, abs-sum at.gain (own_gain x (Sheet.dx sheet)), abs-gain x (Sheet.dx sheet) l.inflow l.outflow l.length))
 
-    arrives_in : {lower : Reach} {table : Bands} (number : ℕ) → number < reach_count sheet → reach_says lower ≡ reach_on sheet number → Standing sheet number table → Arrives (Sheet.dx sheet) lower table sum
-    arrives_in number h is standing = record { lateral = rw is (lateral number h); small = omega (arith, small-next, few); near = standing.near }
+    arrives_in : {lower : Reach} {table : Bands} (number : ℕ) → number < reach_count sheet → reach_says lower ≡ reach_on sheet number → Standing sheet number table → Arrives (Sheet.dx sheet) lower sum
+    arrives_in number h is standing = record { lateral = rw is (lateral number h); small = omega (arith, small-next, few) }
 
     -- which is one of the same reach
     module _ {lower : Reach} {table : Bands} (l : at.passed + 1 < own.segments) (is : reach_says lower ≡ reach_below sheet own at) (standing : Standing sheet (number_below own at) table) where
@@ -212,7 +208,7 @@ module _ {sheet : List ℕ} {n : ℕ} (r : Read sheet n) where
       same-standing : Standing sheet at.number table
       same-standing = rw (lt-ltb (at.passed + 1) own.segments l) at standing
 
-      pub same_arrives : Arrives (Sheet.dx sheet) lower table sum
+      pub same_arrives : Arrives (Sheet.dx sheet) lower sum
       same_arrives = arrives_in at.number a.known same-is same-standing
 
       pub same-reach : {next : Cursor} → Arrived sheet top (Sheet.dx sheet) at.number (at.passed + 1) lower table sum next → Below sheet top n i lower table next
@@ -243,7 +239,7 @@ module _ {sheet : List ℕ} {n : ℕ} (r : Read sheet n) where
       next-standing : Standing sheet (at.number + 1) table
       next-standing = rw (add-one at.number) (rw (le-ltb (at.passed + 1) own.segments l) at standing)
 
-      pub next-arrives : Arrives (Sheet.dx sheet) lower table sum
+      pub next-arrives : Arrives (Sheet.dx sheet) lower sum
       next-arrives = arrives_in (at.number + 1) there next-is next-standing
 
       pub next-reach : {next : Cursor} → Arrived sheet top (Sheet.dx sheet) (at.number + 1) 0 lower table sum next → Below sheet top n i lower table next
@@ -279,10 +275,6 @@ module _ {sheet : List ℕ} {n : ℕ} (r : Read sheet n) where
     -- what is asked for them
     pub passed-less : here.passed < own.segments
     passed-less = omega (arith, segments-at s.at, s.at.within)
-
-    pub lower-asks : {lower : Reach} {lower_table : Bands} → reach_says lower ≡ reach_below sheet own here → Standing sheet (number_below own here) lower_table → {step : ℕ} → step ≡ Sheet.dx sheet →
-        Lower sheet top step n i own lower lower_table here
-    lower-asks is standing d = record { read = r; length = d; less = less; here = s.at; reach = is; bands = standing }
 
     module _ {lower : Reach} {lower_table : Bands} {below : Cursor} (b : Below sheet top n i lower lower_table below) where
       fit-below : (last : Bool) → eqb (i + 1) n ≡ last → Fit (hydraulics_of (course_from sheet top) (cond last i (suc i)))

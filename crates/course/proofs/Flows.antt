@@ -6,14 +6,11 @@ use Rattle.lists.specs.Lists.{tab}
 use Rattle.lists.proofs.Tab.{length-tab, get_or-tab}
 use Rattle.model.specs.Refusals.{Place, Finding, passes, fails}
 use Rattle.model.specs.Load.{test_flows}
-use Rattle.sheet.proofs.Tests.{Judging, judging-start, judging-stop, judging-on, judging-end}
+use Rattle.sheet.proofs.Tests.{Judging, judging-stop, judging-on, judging-end}
 
 -- the test passes for the top flow and the rows before this one
 pub record InTurn (rows : ℕ) (finding : ℕ → Finding) (row : ℕ) : Type 0 where
   pub judged : Judging (tab 0 (suc rows) finding) row
-
-pub in-turn-start : {rows : ℕ} {finding : ℕ → Finding} → InTurn rows finding 0
-in-turn-start = record { judged = judging-start }
 
 module _ {rows row : ℕ} {finding : ℕ → Finding} (t : InTurn rows finding row) where
   pub flow-passes : row ≤ rows → finding row ≡ passes → InTurn rows finding (row + 1)

@@ -4,21 +4,16 @@ use mathlib.Core.List.{List}
 use mathlib.Core.Path.{◌≡◌, ap, ◌∙◌}
 use Prim.Native.Nat.{ℕ, ◌+◌, ◌^◌, ◌<◌, ◌≤◌}
 use native.Mathlib.Omega.{arith}
-use borrow.Author.Tests.{ne_eqb}
 use lib.Dec.{leb}
-use Rattle.model.specs.Sheet.{edition, sections, section_end, sections_end, count_at, row_count_at, gauge_count_at, flow_row_count_at, flow_row_count}
+use Rattle.model.specs.Sheet.{edition, sections, section_end, sections_end, count_at, row_count_at, gauge_count_at, flow_row_count_at}
 use Rattle.model.specs.Flow.{Course, reach_at}
 use Rattle.model.specs.HalfStep.{Site, site_at, Numbers, numbers}
-use Rattle.model.specs.Load.{flow_fault, face_fault, sum_fault, loaded}
+use Rattle.model.specs.Load.{flow_fault, loaded}
 use Rattle.terms.specs.Says.{reach_says}
 use Rattle.halfstep.specs.declared.Site as Held
 use Rattle.halfstep.specs.Site.{site_says, Passes, StandFor}
 use Rattle.sheet.proofs.Passed.{passed}
 use Rattle.course.specs.Segments.{site_fault, Clear, ClearSite, Read, IsSegment}
-
--- at most 64 flow rows
-pub few-rows : {sheet : List ℕ} {n : ℕ} → Read sheet n → flow_row_count sheet ≤ 64
-few-rows {sheet} r = (passed sheet r.passed).flow_row_counts
 
 module _ {course : Course} {i : ℕ} {site : Held.Site} (s : IsSegment course i site) where
   -- a test of the segment
@@ -57,19 +52,7 @@ passes-site c h = record {
   face = c.each 11 (omega arith) (omega arith);
 }
 
--- which test a number names
-module _ (number : ℕ) (site : Site) where
-  pub site-flow : number ≡ 10 → flow_fault site ≡ site_fault number site
-  unfolding site_fault
-  site-flow e = rw e
-
-  pub site-face : number ≡ 11 → face_fault site ≡ site_fault number site
-  unfolding site_fault
-  site-face e = rw e
-
-  pub site-sum : (number ≡ 10 → ⊥) → (number ≡ 11 → ⊥) → sum_fault (numbers site) ≡ site_fault number site
-  unfolding site_fault
-  site-sum p q = rw (ne_eqb _ _ p, ne_eqb _ _ q)
+pub ruleset clear = (flow-site, passes-site)
 
 -- where the rows, the gauges and the flow rows begin fits 32 bits
 module _ {sheet : List ℕ} {n : ℕ} (r : Read sheet n) where

@@ -7,8 +7,8 @@ use Rattle.model.specs.Bands.{hydraulics_at}
 use Rattle.model.specs.HalfStep.{Site, ad, natural, hydraulics_of}
 use Rattle.terms.specs.Says.{reach_says, hydraulics_say}
 use Rattle.terms.specs.declared.Reach.{Reach}
-use Rattle.bands.specs.Bands.{bands_say, far, Standing}
-use Rattle.bands.specs.declared.Bands.{Bands}
+use Rattle.bands.specs.Bands.{bands_say, Standing}
+use Rattle.bands.specs.declared.place.Bands.{Bands}
 use Rattle.halfstep.specs.Ranges.{Lateral, most_gain}
 use Rattle.course.specs.Segments.{Read}
 use Rattle.course.specs.declared.descent.Cursor.{Cursor}
@@ -22,10 +22,9 @@ abbrev pub before : List BandedReach → (k : ℕ) → ℕ
 before rs k = total_segments (map (λ (x : BandedReach). x.reach) (take k rs))
 
 -- nothing that is worked out at a segment leaves its width
-pub record Arrives (dx : ℕ) (own : Reach) (table : Bands) (gain : ℤ) : Type 0 where
+pub record Arrives (dx : ℕ) (own : Reach) (gain : ℤ) : Type 0 where
   pub lateral : Lateral (reach_says own) dx
   pub small : nat_abs gain ≤ most_gain
-  pub near : table.at < far
 
 -- what is worked out there
 pub record Arrived (sheet : List ℕ) (top dx number passed : ℕ) (own : Reach) (table : Bands) (sum : ℤ) (at : Cursor) : Type 0 where
@@ -45,13 +44,6 @@ pub record At (sheet : List ℕ) (top i : ℕ) (own : Reach) (at : Cursor) : Typ
   pub small : nat_abs at.gain ≤ i * 10 ^ 12
   pub flow : at.flow ≡ flow_at (course_from sheet top) i
   pub hydraulics : hydraulics_say at.hydraulics ≡ hydraulics_of (course_from sheet top) i
-
--- a sheet of n segments that its own tests pass, its first reach and that reach's bands
-pub record Begun (sheet : List ℕ) (dx : ℕ) (own : Reach) (table : Bands) : Type 0 where
-  pub read : Read sheet (segment_count sheet)
-  pub length : dx ≡ Sheet.dx sheet
-  pub reach : reach_says own ≡ reach_on sheet 0
-  pub bands : Standing sheet 0 table
 
 -- the number of the reach of the segment below, and that reach
 abbrev pub number_below : (own : Reach) → Cursor → ℕ

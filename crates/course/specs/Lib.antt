@@ -1,2 +1,4 @@
 pub mod Segments
+pub mod Tests
 pub mod Descent
+pub mod Walk

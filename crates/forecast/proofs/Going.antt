@@ -1,8 +1,8 @@
 -- Stepping ahead: the steps made so far, and that none of the states behind them is above the limit.
 use mathlib.Core.Path.{◌≡◌, refl, sym, ap, ◌∙◌}
-use mathlib.Core.Bool.{Bool, true, false, cond}
+use mathlib.Core.Bool.{Bool, true, false}
 use mathlib.Core.List.{List, map}
-use Prim.Native.Nat.{ℕ, suc, ◌+◌, ◌-◌, ◌<◌, ◌≤◌, min}
+use Prim.Native.Nat.{ℕ, suc, ◌+◌, ◌<◌, ◌≤◌, min}
 use native.Mathlib.Numerals.{add-one}
 use native.Mathlib.Omega.{arith}
 use borrow.Author.Tests.{eqb-true}
@@ -71,9 +71,8 @@ sides-next sheet n x = go (eqb (flow_in_force sheet n) (flow_in_force sheet (suc
 abbrev pub above_at : List ℕ → State → (at limit k : ℕ) → Bool
 above_at sheet from at limit k = ltb limit (get_or (ahead (rows_upstream sheet) sheet from k).channel at 0)
 
--- k steps are made, none of the states before is above, and `left` are left
-pub record Going (sheet : List ℕ) (n : ℕ) (begun : List ℕ) (from : State) (room : Working) (at limit horizon : ℕ) (sides : List ℕ) (state : State) (working : Working) (left : ℕ) : Type 0 where
-  pub k : ℕ
+-- k steps are made, and none of the states before is above
+pub record Going (sheet : List ℕ) (n : ℕ) (begun : List ℕ) (from : State) (room : Working) (at limit horizon : ℕ) (sides : List ℕ) (state : State) (working : Working) (k : ℕ) : Type 0 where
   pub is : state ≡ ahead (rows_upstream sheet) sheet from k
   pub ready : Ready sheet n sides state working
   pub working_is : working ≡ working_ahead (rows_upstream sheet) sheet from room k
@@ -82,15 +81,11 @@ pub record Going (sheet : List ℕ) (n : ℕ) (begun : List ℕ) (from : State) 
   pub lengths : SameLengths from state room working
   pub within : from.steps + horizon ≤ steps_m sheet
   pub searching : Searching (above_at sheet from at limit) (suc horizon) k
-  pub reached : k ≤ horizon
-  pub left_is : left ≡ cond (above_at sheet from at limit k) 0 (horizon - k)
 
-pub going_start : {sheet : List ℕ} {n : ℕ} {sides : List ℕ} {from : State} {working : Working} {at limit horizon left figure : ℕ} → Ready sheet n sides from working →
-    from.steps + horizon ≤ steps_m sheet → figure ≡ get_or from.channel at 0 → left ≡ cond (ltb limit figure) 0 horizon →
-    Going sheet n sides from working at limit horizon sides from working left
+pub going_start : {sheet : List ℕ} {n : ℕ} {sides : List ℕ} {from : State} {working : Working} {at limit horizon : ℕ} → Ready sheet n sides from working →
+    from.steps + horizon ≤ steps_m sheet → Going sheet n sides from working at limit horizon sides from working 0
 unfolding ahead working_ahead
-going_start {horizon = horizon} ready h f e = record {
-  k = 0;
+going_start ready h = record {
   is = refl;
   ready = ready;
   working_is = refl;
@@ -99,44 +94,56 @@ going_start {horizon = horizon} ready h f e = record {
   lengths = record { channel = refl; storage = refl; sediment = refl; p = refl; y = refl };
   within = h;
   searching = searching-start;
-  reached = omega arith;
-  left_is = let z : horizon - 0 ≡ horizon = omega arith in e ∙ rw (f, z);
 }
 
-module _ {sheet : List ℕ} {n : ℕ} {begun : List ℕ} {from : State} {room : Working} {at limit horizon : ℕ} {sides : List ℕ} {state : State} {working : Working} {left : ℕ}
-    (g : Going sheet n begun from room at limit horizon sides state working left) where
-  -- a step is left: the state is not above
-  some_left_lem : 0 < left → (above_at sheet from at limit g.k ≡ false) × (g.k < horizon)
-  some_left_lem h = go (above_at sheet from at limit g.k) g.left_is
-    where
-      go : (t : Bool) → left ≡ cond t 0 (horizon - g.k) → (t ≡ false) × (g.k < horizon)
-      go true e = absurd (omega arith)
-      go false e = (refl, omega arith)
-
-  counted : state.steps ≡ from.steps + g.k
-  counted = ap (λ (s : State). s.steps) g.is ∙ ahead-counts (rows_upstream sheet) sheet from g.k
+module _ {sheet : List ℕ} {n : ℕ} {begun : List ℕ} {from : State} {room : Working} {at limit horizon : ℕ} {sides : List ℕ} {state : State} {working : Working} {k : ℕ}
+    (g : Going sheet n begun from room at limit horizon sides state working k) where
+  counted : state.steps ≡ from.steps + k
+  counted = ap (λ (s : State). s.steps) g.is ∙ ahead-counts (rows_upstream sheet) sheet from k
 
   -- at most 1,024 segments
   pub few-segments : n ≤ most_segments
   few-segments = rw g.ready.of_sheet.count (most-segments sheet g.ready.of_sheet.passed)
 
   -- fewer than 100,000 steps are done
-  pub below-most : 0 < left → state.steps < most_steps
-  below-most h = omega (arith, counted, (some_left_lem h).1, g.within, most-steps sheet g.ready.of_sheet.passed)
+  pub below-most : k < horizon → state.steps < most_steps
+  below-most h = omega (arith, counted, g.within, most-steps sheet g.ready.of_sheet.passed)
+
+  -- the figure is the state's
+  above_here : (b : Bool) → ltb limit (get_or state.channel at 0) ≡ b → above_at sheet from at limit k ≡ b
+  above_here b e = ap (λ (s : State). ltb limit (get_or s.channel at 0)) (sym g.is) ∙ e
+
+  ran : k ≡ min (lowest (suc horizon) (above_at sheet from at limit)) horizon → Ran sheet begun from room at limit horizon sides state working
+  ran e = record {
+    made = k;
+    made_is = e;
+    state_is = g.is;
+    working_is = g.working_is;
+    sides_are = g.sides_are;
+    long = g.sides_long;
+    channel_long = g.lengths.channel;
+    storage_long = g.lengths.storage;
+    sediment_long = g.lengths.sediment;
+  }
+
+  -- it is above: the steps end here
+  pub going-above : k < horizon → ltb limit (get_or state.channel at 0) ≡ true → Ran sheet begun from room at limit horizon sides state working
+  going-above h e = ran (let hit = searching-hit g.searching (omega arith) (above_here true e) in omega (arith, hit))
 
   -- one step more
-  pub going-turn : {sides' : List ℕ} {state' : State} {working' : Working} {left' figure u' : ℕ} → 0 < left → u' ≡ rows_upstream sheet (state.steps + 1) →
-      Stepped sheet n sides state working u' sides' state' working' → figure ≡ get_or state'.channel at 0 → left' ≡ cond (ltb limit figure) 0 (left - 1) →
-      Going sheet n begun from room at limit horizon sides' state' working' left'
-  going-turn {sides'} {state'} {working'} {left'} {figure} {u'} h u step f e =
-      record {
-        k = suc g.k;
+  pub going-turn : {sides' : List ℕ} {state' : State} {working' : Working} {u' : ℕ} → k < horizon → ltb limit (get_or state.channel at 0) ≡ false →
+      u' ≡ rows_upstream sheet (state.steps + 1) → Stepped sheet n sides state working u' sides' state' working' →
+      Going sheet n begun from room at limit horizon sides' state' working' (k + 1)
+  going-turn {sides'} {state'} {working'} {u'} h below u step =
+      let same = step-lengths g.ready step in
+      rw (add-one k)
+      (record {
         is = on;
         ready = step.ready;
         working_is =
             step.working_passed ∙ ap (λ v. own_working sheet v state working) upstream ∙ ap (own_working sheet (rows_upstream sheet (suc state.steps)) state) g.working_is
-            ∙ ap (λ (s : State). own_working sheet (rows_upstream sheet (suc s.steps)) s (working_ahead (rows_upstream sheet) sheet from room g.k)) g.is
-            ∙ working-last (rows_upstream sheet) sheet from room g.k;
+            ∙ ap (λ (s : State). own_working sheet (rows_upstream sheet (suc s.steps)) s (working_ahead (rows_upstream sheet) sheet from room k)) g.is
+            ∙ working-last (rows_upstream sheet) sheet from room k;
         sides_are = λ x q. step.sides_are.sides ∙ ap (sides_after sheet state.steps) (g.sides_are x q) ∙ sides-next sheet state.steps x ∙ ap (λ m. held_at sheet m x) (sym next);
         sides_long = step.sides_are.long ∙ g.sides_long;
         lengths = record {
@@ -147,51 +154,25 @@ module _ {sheet : List ℕ} {n : ℕ} {begun : List ℕ} {from : State} {room : 
           y = same.y ∙ g.lengths.y;
         };
         within = g.within;
-        searching = rw (← add-one g.k) (searching-miss g.searching (omega (arith, s.1)) s.0);
-        reached = omega (arith, s.1);
-        left_is =
-            e ∙ ap (λ x. cond (ltb limit x) 0 (left - 1)) (f ∙ ap (λ (q : State). get_or q.channel at 0) on)
-            ∙ ap (cond (above_at sheet from at limit (suc g.k)) 0) fewer;
-      }
+        searching = rw (← add-one k) (searching-miss g.searching (omega arith) (above_here false below));
+      })
     where
-      s : (above_at sheet from at limit g.k ≡ false) × (g.k < horizon)
-      s = some_left_lem h
-
-      fewer : left - 1 ≡ horizon - suc g.k
-      fewer = let l : left ≡ horizon - g.k = g.left_is ∙ rw s.0 in omega (arith, s.1)
-
-      same : SameLengths state state' working working'
-      same = step-lengths g.ready step
-
       upstream : u' ≡ rows_upstream sheet (suc state.steps)
       upstream = let one : state.steps + 1 ≡ suc state.steps = omega arith in u ∙ ap (rows_upstream sheet) one
 
-      on : state' ≡ ahead (rows_upstream sheet) sheet from (suc g.k)
+      on : state' ≡ ahead (rows_upstream sheet) sheet from (suc k)
       on =
           step.state_is ∙ ap (λ v. own_step sheet v state) upstream
-          ∙ ap (λ (s : State). own_step sheet (rows_upstream sheet (suc s.steps)) s) g.is ∙ sym (ahead-last (rows_upstream sheet) sheet from g.k)
+          ∙ ap (λ (s : State). own_step sheet (rows_upstream sheet (suc s.steps)) s) g.is ∙ sym (ahead-last (rows_upstream sheet) sheet from k)
 
       next : state'.steps ≡ suc state.steps
       next =
-          ap (λ (s : State). s.steps) on ∙ ahead-counts (rows_upstream sheet) sheet from (suc g.k) ∙ omega (arith, counted)
+          ap (λ (s : State). s.steps) on ∙ ahead-counts (rows_upstream sheet) sheet from (suc k) ∙ omega (arith, counted)
 
   -- none is left
-  pub going_end : left ≡ 0 → Ran sheet begun from room at limit horizon sides state working
-  going_end e = record {
-    made = g.k;
-    made_is = go (above_at sheet from at limit g.k) refl (sym e ∙ g.left_is);
-    state_is = g.is;
-    working_is = g.working_is;
-    sides_are = g.sides_are;
-    long = g.sides_long;
-    channel_long = g.lengths.channel;
-    storage_long = g.lengths.storage;
-    sediment_long = g.lengths.sediment;
-  }
+  pub going_end : k ≡ horizon → Ran sheet begun from room at limit horizon sides state working
+  going_end e = ran (go (above_at sheet from at limit k) refl)
     where
-      go : (t : Bool) → above_at sheet from at limit g.k ≡ t → 0 ≡ cond t 0 (horizon - g.k) → g.k ≡ min (lowest (suc horizon) (above_at sheet from at limit)) horizon
-      go true q z = let hit = searching-hit g.searching (omega (arith, g.reached)) q in omega (arith, hit, g.reached)
-      go false q z =
-          let end : g.k ≡ horizon = omega (arith, z, g.reached) in
-          let none = searching-end (searching-miss g.searching (omega (arith, g.reached)) q) (omega (arith, end)) in
-          omega (arith, none, end)
+      go : (t : Bool) → above_at sheet from at limit k ≡ t → k ≡ min (lowest (suc horizon) (above_at sheet from at limit)) horizon
+      go true q = let hit = searching-hit g.searching (omega arith) q in omega (arith, hit)
+      go false q = let none = searching-end (searching-miss g.searching (omega arith) q) (omega arith) in omega (arith, none)

@@ -1,5 +1,5 @@
-pub mod Gauges
 pub mod Tests
+pub mod Gauges
 pub mod Going
 pub mod Looking
 pub mod Answers

@@ -8,15 +8,14 @@ use borrow.Author.Tests.{ltb-false}
 use lib.Dec.{ltb}
 use lib.ListN.{length, get_or}
 use Rattle.lists.specs.Lists.{tab, over, lowest}
-use Rattle.lists.specs.Lent.{plain}
-use Rattle.lists.proofs.Over.{length_over, over-long}
+use Rattle.lists.proofs.Over.{over-long}
 use Rattle.lists.proofs.Shorter.{all-long, neither}
-use Rattle.lists.proofs.Tab.{length-tab, map-tab}
+use Rattle.lists.proofs.Tab.{map-tab}
 use Rattle.model.specs.Ranges.{outside, concentration, most_segments}
 use Rattle.model.specs.Sheet.{segment_count}
 use Rattle.model.specs.Equations.{Figures}
 use Rattle.model.specs.State.{State, state_lists, figures_at, figures_of, write_figures}
-use Rattle.model.specs.Refusals.{accepted, passes, first}
+use Rattle.model.specs.Refusals.{passes, first}
 use Rattle.model.specs.Load.{river_tests}
 use Rattle.model.specs.Highest.{block_count, highest_of, blocks_fault}
 use Rattle.model.specs.Calls.{held_fault, Working}
@@ -34,8 +33,7 @@ use Rattle.otis.specs.declared.River.{River}
 use Rattle.own_river.specs.Sides.{sides_of, held_at}
 use Rattle.own_river.specs.Ready.{Held, Ready}
 use Rattle.forecast.specs.declared.Forecast.{Forecast}
-use Rattle.forecast.specs.declared.Forecast.TheVariants as Forecast
-use Rattle.forecast.specs.Says.{forecast_says}
+use Rattle.forecast.specs.Says.{foreseen_says}
 use Rattle.forecast.specs.Left.{Fit, Ran, Looked}
 
 -- ---- the highest figures
@@ -97,7 +95,7 @@ module _ (sheet : List ℕ) (live : Live) (room : Room) (asked : Question) (fit 
   module _ {c z w : List ℕ} (ec : c ≡ copied_over live.state.channel room.copies.channel) (ez : z ≡ copied_over live.state.storage room.copies.storage)
       (ew : w ≡ copied_over live.state.sediment room.copies.sediment) where
     abbrev begun : State
-    begun = state plain c z w live.state.upstream live.state.steps
+    begun = state c z w live.state.upstream live.state.steps
 
     begun-is : begun ≡ copied live room.copies
     unfolding copied write_figures figures_at
@@ -169,28 +167,17 @@ module _ (sheet : List ℕ) (live : Live) (room : Room) (asked : Question) (fit 
       pub not_back : live.state.steps ≤ stopped.steps
       not_back = omega (arith, counts)
 
-      -- the copies' lists are as long as they were
-      same_length : (from to list list' : List ℕ) → list ≡ copied_over from to → length list' ≡ length list → live.n ≤ length to → length list' ≡ length to
-      same_length from to list list' e q h =
-          q ∙ ap length e ∙ length_over (tab 0 live.n (λ i. get_or from i 0)) to (let l = length-tab (λ i. get_or from i 0) 0 live.n in omega arith)
-
-      pub channel-same : length stopped.channel ≡ length room.copies.channel
-      channel-same = same_length live.state.channel room.copies.channel c stopped.channel ec ran.channel_long fit.copies.channel
-
-      pub storage-same : length stopped.storage ≡ length room.copies.storage
-      storage-same = same_length live.state.storage room.copies.storage z stopped.storage ez ran.storage_long fit.copies.storage
-
-      pub sediment-same : length stopped.sediment ≡ length room.copies.sediment
-      sediment-same = same_length live.state.sediment room.copies.sediment w stopped.sediment ew ran.sediment_long fit.copies.sediment
-
+      -- the copies' list is as long as it was
       pub stopped-long : live.n ≤ length stopped.channel
-      stopped-long = let e = channel-same in let h = fit.copies.channel in omega arith
+      stopped-long =
+          let h = long-copied live.state.channel room.copies.channel c ec fit.copies.channel in
+          rw ran.channel_long h
 
       -- ---- the answer
 
       answer_is : (r : Forecast) (figure : ℕ) (river : River) → river.upstream ≡ stopped.upstream → river.steps ≡ stopped.steps →
           figure ≡ get_or stopped.channel (asked.gauge - 1) 0 →
-          r ≡ cond (ltb asked.limit figure) (Forecast.Above river) (Forecast.NotAbove river) → forecast_says r ≡ accepted (foreseen sheet live asked)
+          r ≡ cond (ltb asked.limit figure) (Forecast.Above river) (Forecast.NotAbove river) → foreseen_says r ≡ foreseen sheet live asked
       answer_is r figure river eu es ef er = go (is_above sheet live asked k) refl
         where
           shown : ltb asked.limit figure ≡ is_above sheet live asked k
@@ -198,7 +185,7 @@ module _ (sheet : List ℕ) (live : Live) (room : Room) (asked : Question) (fit 
               ap (ltb asked.limit) (ef ∙ ap (λ (s : State). get_or s.channel (asked.gauge - 1) 0) stopped-is)
               ∙ above-copied sheet live room.copies fit.of_sheet.count asked at-inside k
 
-          go : (t : Bool) → is_above sheet live asked k ≡ t → forecast_says r ≡ accepted (foreseen sheet live asked)
+          go : (t : Bool) → is_above sheet live asked k ≡ t → foreseen_says r ≡ foreseen sheet live asked
           go true e = rw (er, shown, e, sees-above sheet live asked e, eu, es, ← counts, alike.upstream, alike.steps)
           go false e = rw (er, shown, e, sees-none sheet live asked e, eu, es, alike.upstream, alike.steps)
 
@@ -207,11 +194,11 @@ module _ (sheet : List ℕ) (live : Live) (room : Room) (asked : Question) (fit 
       pub looked : (r : Forecast) (figure more : ℕ) (river : River) (highest₁ : List ℕ) → river.upstream ≡ stopped.upstream → river.steps ≡ stopped.steps →
           more ≡ river.steps - live.state.steps → highest₁ ≡ copied_highest live.n live.highest stopped.channel room.highest more →
           figure ≡ get_or stopped.channel (asked.gauge - 1) 0 → r ≡ cond (ltb asked.limit figure) (Forecast.Above river) (Forecast.NotAbove river) →
-          Looked sheet live room asked (forecast_says r) stopped.channel stopped.storage stopped.sediment highest₁ sides₁ working₁
+          Looked sheet live room asked (foreseen_says r) (record { copies = state stopped.channel stopped.storage stopped.sediment 0 0; highest = highest₁; sides = sides₁; working = working₁ })
       unfolding forecast_left foreseen
       looked r figure more river highest₁ eu es em eh ef er =
           let count : more ≡ k = omega (arith, em, es, counts) in
-          let same : state plain stopped.channel stopped.storage stopped.sediment (state_at sheet live k).upstream (state_at sheet live k).steps ≡ stopped =
+          let same : state stopped.channel stopped.storage stopped.sediment (state_at sheet live k).upstream (state_at sheet live k).steps ≡ stopped =
           rw (← alike.upstream, ← alike.steps) in
           record {
             answer_is = answer_is r figure river eu es ef er;

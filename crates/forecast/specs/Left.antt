@@ -1,7 +1,6 @@
 -- What a forecast leaves, and what its parts ask and leave.
 use Rattle.std.specs.Prelude.{◌≡◌, List, ℕ, suc, ◌+◌, ◌≤◌, min, ltb, length, get_or}
 use Rattle.lists.specs.Lists.{lowest}
-use Rattle.lists.specs.Lent.{plain}
 use Rattle.model.specs.Sheet.{steps_m}
 use Rattle.model.specs.State.{State}
 use Rattle.model.specs.Refusals.{Outcome, accepted, refused}
@@ -51,9 +50,10 @@ pub record Ran (sheet : List ℕ) (sides : List ℕ) (from : State) (working : W
   pub storage_long : length state'.storage ≡ length from.storage
   pub sediment_long : length state'.sediment ≡ length from.sediment
 
--- what a forecast whose tests pass leaves
-pub record Looked (sheet : List ℕ) (live : Live) (room : Room) (asked : Question) (answer : Outcome Foreseen) (channel storage sediment highest sides : List ℕ) (working : Working) : Type 0 where
-  pub answer_is : answer ≡ accepted (foreseen sheet live asked)
+-- what a forecast whose tests pass leaves in the room; U and the count of its copies are of no matter
+pub record Looked (sheet : List ℕ) (live : Live) (room : Room) (asked : Question) (answer : Foreseen) (after : Room) : Type 0 where
+  pub answer_is : answer ≡ foreseen sheet live asked
   pub left_is : let v = foreseen sheet live asked in
-      left (state plain channel storage sediment v.upstream v.steps) highest working ≡ forecast_left sheet live room asked
-  pub sides_are : SidesAre (held_at sheet (foreseen sheet live asked).steps (sides_of room.sides)) room.sides sides
+      left (state after.copies.channel after.copies.storage after.copies.sediment v.upstream v.steps) after.highest after.working
+      ≡ forecast_left sheet live room asked
+  pub sides_are : SidesAre (held_at sheet (foreseen sheet live asked).steps (sides_of room.sides)) room.sides after.sides

@@ -13,11 +13,12 @@ ghost use Rattle.terms.specs.Says.{reach_says, hydraulics_say, numbers_say};
 ghost use Rattle.halfstep.specs.Ranges.{most_gain, Lateral};
 ghost use Rattle.halfstep.specs.Site.{site_says, cut, Fields, Passes, StandFor};
 
-use rounding::signed;
+use rounding::signed::floor_div;
 use terms::{Hydraulics, Numbers, Reach};
 
 // What the half-step numbers of a segment are worked out from: its reach, its A, D and AS, the AD above and below, its flow, whether it is
 // the last of the river, and the sheet's dt and dx.
+// A site has any fields, for which test 10 has to answer (what may not change); so what tests 10 and 11 leave of it is a clause of the methods behind them.
 #[derive(Clone, Copy)]
 pub struct Site {
     pub own: Reach,
@@ -40,15 +41,14 @@ pub fn ad(x: Hydraulics) -> u64
     rounding::product(x.area, x.dispersion)
 }
 
-// A segment's own gain: (qin − qout) × dx.
+// A segment's own gain: (qin − qout) × dx. Here and below `own` and `dx` stay two parameters: the descent has them apart, so that a struct of them is
+// no plainer, as it would be made and read for these calls alone; and so `Lateral` stays in their contracts.
+#[tactic(auto, unfolding(model::specs::Flow::own_gain))]
 fn share(own: Reach, dx: u32) -> i64
     requires { Lateral (reach_says own) dx }
     ensures { (result ≡ own_gain (reach_says own) dx) × (nat_abs result ≤ 10 ^ 12) }
 {
-    signed::times(
-        signed::minus(signed::int(own.qin), signed::int(own.qout)),
-        signed::int(dx),
-    )
+    (i64::from(own.qin) - i64::from(own.qout)) * i64::from(dx)
 }
 
 // The gain of the segments before the next one.
@@ -56,170 +56,155 @@ pub fn gain_below(gain: i64, own: Reach, dx: u32) -> i64
     requires { Lateral (reach_says own) dx × (nat_abs gain ≤ most_gain) }
     ensures { result ≡ gain +ℤ own_gain (reach_says own) dx }
 {
-    signed::plus(gain, share(own, dx))
+    gain + share(own, dx)
 }
 
 // The flow at the top, the gain of the segments before and half of the segment's own, rounded down once. There are 100,000 cm to
 // the km, and twice as many for twice the sum.
+#[tactic(auto, unfolding(model::specs::Flow::flow))]
 pub fn flow(top: u32, gain: i64, own: Reach, dx: u32) -> i64
     requires { Lateral (reach_says own) dx × (nat_abs gain ≤ most_gain) }
     ensures { result ≡ flow top gain (own_gain (reach_says own) dx) }
 {
-    let twice = signed::plus(signed::times(2, gain), share(own, dx));
-    signed::plus(signed::int(top), signed::floor_div(twice, 200000))
-}
-
-// Above the highest flow.
-fn above_highest(flow: i64) -> bool
-    ensures { result ≡ lt_z (pos flows.high) flow }
-{
-    HIGHEST_FLOW < flow
+    i64::from(top) + floor_div(2 * gain + share(own, dx), 200000)
 }
 
 // Q as the formulas read it.
 pub fn discharge(flow: i64) -> u64
     ensures { result ≡ natural flow }
 {
-    if signed::below_zero(flow) {
-        return 0;
-    }
-    flow as u64
-}
-
-// dt × rate / (2 × 10⁹).
-fn rate(dt: u32, rate: u32) -> u32
-    ensures { result ≡ cut (rounded (rate_of dt rate)) }
-{
-    rounding::parts(rounding::product(dt, rate), 2000000000)
-}
-
-// 4 × A × dx².
-fn face_divisor(area: u32, dx: u32) -> u64
-    requires { (1 ≤ area) × (area ≤ 10 ^ 6) × (1 ≤ dx) × (dx ≤ 10 ^ 4) }
-    ensures { (result ≡ 4 * area * (dx * dx)) × (0 < result) }
-{
-    4 * (area as u64) * rounding::product(dx, dx)
-}
-
-// dt × x / d, where x is what crosses a face of the segment.
-fn crossing(dt: u32, x: u64, d: u64) -> u32
-    requires { (dt ≤ 3600) × (x ≤ 3 * 10 ^ 12) × (0 < d) }
-    ensures { result ≡ cut (parts (dt * x) d) }
-{
-    rounding::parts((dt as u64) * x, d)
-}
-
-// dt × qin / (2 × 10⁵ × A).
-fn inflow(dt: u32, qin: u32, area: u32) -> u32
-    requires { 1 ≤ area }
-    ensures { result ≡ cut (parts (dt * qin) (2 * 10 ^ 5 * area)) }
-{
-    rounding::parts(rounding::product(dt, qin), 200000 * (area as u64))
-}
-
-// dt × ALPHA × A / (2 × 10⁹ × AS).
-fn exchange(dt: u32, alpha: u32, area: u32, area2: u32) -> u32
-    requires { (dt ≤ 3600) × (alpha ≤ 10 ^ 9) × (area ≤ 10 ^ 6) × (1 ≤ area2) }
-    ensures { result ≡ cut (parts (dt * alpha * area) (2 * 10 ^ 9 * area2)) }
-{
-    rounding::parts(
-        rounding::product(dt, alpha) * (area as u64),
-        2000000000 * (area2 as u64),
-    )
-}
-
-// dt × LAMHAT × RHO × Kd / (2 × 10¹⁵), worked out where h is at most one whole: elsewhere the product may be wider than 64 bits, and
-// the segment is refused 12 whatever s is.
-fn sorption(dt: u32, lamhat: u32, rho: u32, kd: u32, h: u32) -> u32
-    requires { (rho ≤ 1000000) × (kd ≤ 1000) × (h ≡ cut (rounded (rate_of dt lamhat))) }
-    ensures { rounded (rate_of dt lamhat) ≤ S → result ≡ cut (parts (dt * lamhat * rho * kd) (2 * 10 ^ 15)) }
-{
-    if rounding::WHOLE < h as u64 {
-        return 0;
-    }
-    rounding::parts(
-        rounding::product(dt, lamhat) * (rho as u64) * (kd as u64),
-        2000000000000000,
-    )
+    u64::try_from(flow).unwrap_or(0)
 }
 
 impl Site {
     // 10. "A flow is below 0 or above 100,000,000".
+    #[tactic(auto, unfolding(model::specs::Load::flow_fault))]
     pub fn flow_fault(self) -> bool
         ensures { result ≡ flow_fault (site_says self) }
     {
-        if signed::below_zero(self.flow) {
-            return true;
-        }
-        above_highest(self.flow)
+        self.flow < 0 || HIGHEST_FLOW < self.flow
     }
 
     // Q × dx.
+    #[tactic(auto, unfolding(model::specs::Load::flow_fault))]
     fn carried(self) -> u64
         requires { (self.dx ≤ 10 ^ 4) × (flow_fault (site_says self) ≡ false) }
         ensures { (result ≡ natural self.flow * self.dx) × (result ≤ 10 ^ 12) }
     {
-        discharge(self.flow) * (self.dx as u64)
+        discharge(self.flow) * u64::from(self.dx)
     }
 
     // 11. "Q × dx exceeds AD own + AD below".
+    #[tactic(auto, unfolding(model::specs::Load::face_fault))]
     pub fn face_fault(self) -> bool
         requires { Fields (site_says self) × (flow_fault (site_says self) ≡ false) }
         ensures { result ≡ face_fault (site_says self) }
     {
-        let x = self.hydraulics;
-        ad(x) + self.below < self.carried()
+        ad(self.hydraulics) + self.below < self.carried()
+    }
+
+    // What crosses a face of the segment: dt × x / (4 × A × dx²).
+    fn crossing(self, x: u64) -> u32
+        requires { Fields (site_says self) × (x ≤ 3 * 10 ^ 12) }
+        ensures { result ≡ cut (parts (self.dt * x) (4 * self.hydraulics.area * (self.dx * self.dx))) }
+    {
+        rounding::parts(
+            u64::from(self.dt) * x,
+            4 * u64::from(self.hydraulics.area) * rounding::product(self.dx, self.dx),
+        )
     }
 
     // dt × (Q × dx + AD above + AD own) / (4 × A × dx²).
+    #[tactic(auto, unfolding(model::specs::HalfStep::numbers, model::specs::HalfStep::fractions))]
     fn e(self) -> u32
         requires { Passes (site_says self) }
         ensures { result ≡ cut (numbers (site_says self)).e }
     {
-        let x = self.hydraulics;
-        crossing(
-            self.dt,
-            self.carried() + self.above + ad(x),
-            face_divisor(x.area, self.dx),
-        )
+        self.crossing(self.carried() + self.above + ad(self.hydraulics))
     }
 
     // dt × (AD own + AD below − Q × dx) / (4 × A × dx²); 0 in the last segment.
+    #[tactic(auto, unfolding(model::specs::HalfStep::numbers, model::specs::HalfStep::fractions))]
     fn g(self) -> u32
         requires { Passes (site_says self) }
         ensures { result ≡ cut (numbers (site_says self)).g }
     {
         if self.last {
+            0
+        } else {
+            self.crossing(ad(self.hydraulics) + self.below - self.carried())
+        }
+    }
+
+    // dt × qin / (2 × 10⁵ × A).
+    #[tactic(auto, unfolding(model::specs::HalfStep::numbers, model::specs::HalfStep::fractions))]
+    fn l(self) -> u32
+        requires { Fields (site_says self) }
+        ensures { result ≡ cut (numbers (site_says self)).l }
+    {
+        rounding::parts(
+            rounding::product(self.dt, self.own.qin),
+            200000 * u64::from(self.hydraulics.area),
+        )
+    }
+
+    // dt × rate / (2 × 10⁹), for a, k, ks, h and m.
+    fn rate(self, rate: u32) -> u32
+        ensures { result ≡ cut (rounded (rate_of self.dt rate)) }
+    {
+        rounding::parts(rounding::product(self.dt, rate), 2000000000)
+    }
+
+    // dt × ALPHA × A / (2 × 10⁹ × AS).
+    #[tactic(auto, unfolding(model::specs::HalfStep::numbers, model::specs::HalfStep::fractions))]
+    fn b(self) -> u32
+        requires { Fields (site_says self) }
+        ensures { result ≡ cut (numbers (site_says self)).b }
+    {
+        let x = self.hydraulics;
+        rounding::parts(
+            rounding::product(self.dt, self.own.alpha) * u64::from(x.area),
+            2000000000 * u64::from(x.area2),
+        )
+    }
+
+    // dt × LAMHAT × RHO × Kd / (2 × 10¹⁵), worked out where h is at most one whole: elsewhere the product may be wider than 64 bits, and
+    // the segment is refused 12 whatever s is.
+    #[tactic(auto, unfolding(model::specs::HalfStep::numbers, model::specs::HalfStep::fractions))]
+    fn s(self, h: u32) -> u32
+        requires { Fields (site_says self) × (h ≡ cut (numbers (site_says self)).h) }
+        ensures { (numbers (site_says self)).h ≤ S → result ≡ cut (numbers (site_says self)).s }
+    {
+        if rounding::WHOLE < u64::from(h) {
             return 0;
         }
-        let x = self.hydraulics;
-        crossing(
-            self.dt,
-            ad(x) + self.below - self.carried(),
-            face_divisor(x.area, self.dx),
+        rounding::parts(
+            rounding::product(self.dt, self.own.lamhat)
+                * u64::from(self.own.rho)
+                * u64::from(self.own.kd),
+            2000000000000000,
         )
     }
 
     // The ten half-step numbers; one part above one whole stands for all that is more.
+    #[tactic(auto, unfolding(model::specs::HalfStep::numbers, model::specs::HalfStep::fractions))]
     pub fn numbers(self) -> Numbers
         requires { Passes (site_says self) }
         ensures { StandFor (numbers_say result) (numbers (site_says self)) }
     {
         let own = self.own;
-        let x = self.hydraulics;
-        let dt = self.dt;
-        let h = rate(dt, own.lamhat);
+        let h = self.rate(own.lamhat);
         Numbers {
             e: self.e(),
             g: self.g(),
-            l: inflow(dt, own.qin, x.area),
-            a: rate(dt, own.alpha),
-            b: exchange(dt, own.alpha, x.area, x.area2),
-            k: rate(dt, own.lambda),
-            ks: rate(dt, own.lambda2),
-            h: h,
-            m: rate(dt, own.lamhat2),
-            s: sorption(dt, own.lamhat, own.rho, own.kd, h),
+            l: self.l(),
+            a: self.rate(own.alpha),
+            b: self.b(),
+            k: self.rate(own.lambda),
+            ks: self.rate(own.lambda2),
+            h,
+            m: self.rate(own.lamhat2),
+            s: self.s(h),
         }
     }
 }

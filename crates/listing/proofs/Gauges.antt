@@ -6,12 +6,10 @@ use native.Mathlib.Omega.{arith}
 use borrow.Author.Tests.{ne_eqb}
 use lib.ListN.{get_or}
 use Rattle.lists.specs.Lists.{tab}
-use Rattle.lists.specs.Lent.{plain}
 use Rattle.lists.proofs.Tab.{get_or-tab, tab-last, map-tab}
 use Rattle.model.specs.Ranges.{gauge_section}
 use Rattle.model.specs.Sheet.{interval, record_field, gauge_count_at, gauge_count, gauges, segment_count}
 use Rattle.model.specs.State.{State, figures_at}
-use Rattle.terms.specs.Lent.{state}
 use Rattle.output.specs.Listing.{gauge_line, step_lines, lines_at}
 use Rattle.output.specs.Outcomes.{Lines}
 use Rattle.output.specs.declared.Output.{Output}
@@ -41,16 +39,15 @@ unfolding first_lines step_lines gauges
 lines-all sheet s = sym (map-tab (gauge_line sheet s) (gauge_at sheet) 0 (gauge_count sheet))
 
 -- the step is a multiple of the interval, or has no line
-pub due : (sheet : List ℕ) (s : State) {o r : Output} {buffer later : List ℕ} → s.steps % interval sheet ≡ 0 →
-    Lines (step_lines sheet s) o buffer r later → Lines (lines_at sheet s) o buffer r later
+pub due : (sheet : List ℕ) (s : State) {o r : Output} → s.steps % interval sheet ≡ 0 → Lines (step_lines sheet s) o r → Lines (lines_at sheet s) o r
 unfolding lines_at
 due sheet s e x = rw e x
 
-pub none-due : (sheet : List ℕ) (s : State) {o : Output} {buffer : List ℕ} → (s.steps % interval sheet ≡ 0 → ⊥) → Lines (lines_at sheet s) o buffer o buffer
+pub none-due : (sheet : List ℕ) (s : State) {o : Output} → (s.steps % interval sheet ≡ 0 → ⊥) → Lines (lines_at sheet s) o o
 unfolding lines_at
 none-due sheet s n = rw (ne_eqb (s.steps % interval sheet) 0 n) lines_none
 
-module _ (sheet kd channel storage sediment : List ℕ) (x : Shown sheet kd channel storage sediment) (j : ℕ) (h : j < gauge_count sheet) where
+module _ (sheet kd : List ℕ) (s : State) (x : Shown sheet kd s) (j : ℕ) (h : j < gauge_count sheet) where
   -- gauge j of the list of gauges
   at-is : get_or (gauges sheet) j 0 ≡ gauge_at sheet j
   unfolding gauges
@@ -63,7 +60,7 @@ module _ (sheet kd channel storage sediment : List ℕ) (x : Shown sheet kd chan
   gauge-most : gauge_at sheet j ≤ segment_count sheet
   gauge-most = rw at-is at (gauge-last sheet x.passed j h)
 
-  pub gauge-within : HasSegment (gauge_at sheet j) kd channel storage sediment
+  pub gauge-within : HasSegment (gauge_at sheet j) kd s
   gauge-within =
       let from = gauge-from in
       let most = gauge-most in
@@ -78,10 +75,9 @@ module _ (sheet kd channel storage sediment : List ℕ) (x : Shown sheet kd chan
       }
 
   -- its line is read from the lists
-  pub line-is : (upstream steps : ℕ) →
-      line_at steps (gauge_at sheet j) kd channel storage sediment ≡ gauge_line sheet (state plain channel storage sediment upstream steps) (gauge_at sheet j)
+  pub line-is : line_at (gauge_at sheet j) kd s ≡ gauge_line sheet s (gauge_at sheet j)
   unfolding line_at gauge_line figures_at
-  line-is upstream steps =
+  line-is =
       let from = gauge-from in
       let most = gauge-most in
       rw (x.kd_is (gauge_at sheet j - 1) (omega arith))

@@ -11,16 +11,6 @@ use Rattle.lists.proofs.Shorter.{neither}
 
 -- ---- one of 0, .., n − 1
 
--- a loop at its start
-pub any-start : (f : ℕ → Bool) → any_below 0 f ≡ false
-unfolding any_below
-any-start f = refl
-
--- a loop that finds none below i, and none at i
-pub any-miss : (f : ℕ → Bool) (i : ℕ) → any_below i f ≡ false → f i ≡ false → any_below (i + 1) f ≡ false
-unfolding any_below
-any-miss f i e h = rw (add-one i, e, h)
-
 -- one below n is below n + 1
 any-more : (f : ℕ → Bool) (n : ℕ) → any_below n f ≡ true → any_below (suc n) f ≡ true
 unfolding any_below

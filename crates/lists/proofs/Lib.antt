@@ -5,3 +5,4 @@ pub mod Shorter
 pub mod Either
 pub mod Below
 pub mod Stretch
+pub mod AnyBelow

@@ -1,14 +1,14 @@
 -- Laws of `any_shorter`, `any_under` and `not_rising`.
-use mathlib.Core.Path.{◌≡◌, refl, ap, ◌∙◌}
+use mathlib.Core.Path.{◌≡◌, refl, ap}
 use mathlib.Core.Bool.{Bool, true, false, ◌||◌, true≢false}
 use mathlib.Core.List.{List, [], ◌∷◌, ◌++◌, map}
-use Prim.Native.Nat.{ℕ, zero, suc, ◌+◌, ◌-◌, ◌<◌, ◌≤◌}
-use native.Mathlib.Numerals.{add-one}
+use Prim.Native.Nat.{ℕ, zero, suc, ◌-◌, ◌<◌, ◌≤◌}
 use native.Mathlib.Omega.{arith}
-use borrow.Author.Tests.{ltb-false, lt-ltb, le-ltb}
+use borrow.Author.Tests.{ltb-false, le-ltb}
 use lib.Dec.{leb, ltb}
-use lib.ListN.{length, get_or, drop}
-use lib.Seq.{drop-cons}
+use lib.ListN.{length, get_or}
+use Rattle.std.specs.List.{list_any}
+use Rattle.std.proofs.Common.{nat_lt}
 use Rattle.lists.specs.Lists.{any_shorter, any_under, not_rising}
 
 -- a test of two parts that finds nothing: neither part does
@@ -49,32 +49,11 @@ unfolding any_under any_shorter
 under-lengths n [] = refl
 under-lengths n (list ∷ lists) = rw (under-lengths n lists)
 
--- no length before i is below n
-pub record Looking (n : ℕ) (lengths : List ℕ) (i : ℕ) : Type 0 where
-  pub reached : i ≤ length lengths
-  pub rest : any_under n lengths ≡ any_under n (drop i lengths)
-
-pub looking-start : {n : ℕ} {lengths : List ℕ} → Looking n lengths 0
-looking-start = record { reached = omega arith; rest = refl }
-
-module _ {n : ℕ} {lengths : List ℕ} {i : ℕ} (v : Looking n lengths i) where
-  pub looking-hit : i < length lengths → get_or lengths i 0 < n → true ≡ any_under n lengths
-  unfolding any_under
-  looking-hit h l = rw (v.rest, drop-cons lengths i 0 h, lt-ltb _ _ l)
-
-  pub looking-miss : i < length lengths → n ≤ get_or lengths i 0 → Looking n lengths (i + 1)
-  unfolding any_under
-  looking-miss h l = record { reached = omega arith; rest = v.rest ∙ rw (drop-cons lengths i 0 h, le-ltb _ _ l, add-one i) }
-
-  pub looking-end : length lengths ≤ i → false ≡ any_under n lengths
-  unfolding any_under
-  looking-end h = rw v.rest (none i lengths h)
-    where
-      none : (i : ℕ) (lengths : List ℕ) → length lengths ≤ i → false ≡ any_under n (drop i lengths)
-      none zero [] h = refl
-      none (suc i) [] h = refl
-      none zero (x ∷ xs) h = absurd (omega arith)
-      none (suc i) (x ∷ xs) h = none i xs (omega arith)
+-- as a test of each length
+pub under_list_any : (n : ℕ) (lengths : List ℕ) → list_any (λ length. nat_lt length n) lengths ≡ any_under n lengths
+unfolding any_under
+under_list_any n [] = refl
+under_list_any n (length ∷ lengths) = ap (λ rest. ltb length n || rest) (under_list_any n lengths)
 
 -- ---- entries that rise
 

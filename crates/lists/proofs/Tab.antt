@@ -1,10 +1,11 @@
 -- Laws of `tab`: its length and its entries, a table's end and its tail, and tables of equal entries.
-use mathlib.Core.Path.{◌≡◌, refl, ap, ap₂, ◌∙◌}
+use mathlib.Core.Path.{◌≡◌, refl, sym, ap, ap₂, ◌∙◌}
 use mathlib.Core.List.{List, [], ◌∷◌, ◌++◌, map}
 use Prim.Native.Nat.{ℕ, zero, suc, ◌+◌, ◌-◌, ◌<◌, ◌≤◌}
 use native.Mathlib.Nat.{add-zero, zero-add, sub-zero, zero-sub}
 use native.Mathlib.Omega.{arith}
-use lib.ListN.{length, get_or, drop}
+use lib.ListN.{length, get_or, take, drop}
+use lib.Seq.{take-suc}
 use Rattle.lists.specs.Lists.{tab}
 
 module _ {ℓ} {A : Type ℓ} (f : ℕ → A) where
@@ -44,3 +45,9 @@ tab-cong f g j (suc n) e = ap₂ ◌∷◌ (e j (omega arith) (omega arith)) (ta
 pub map-tab {ℓ ℓ'} : {A : Type ℓ} {B : Type ℓ'} (g : A → B) (f : ℕ → A) (j n : ℕ) → map g (tab j n f) ≡ tab j n (λ i. g (f i))
 map-tab g f j zero = refl
 map-tab g f j (suc n) = ap {B = List _} (λ l. g (f j) ∷ l) (map-tab g f (suc j) n)
+
+-- the first n entries of a list
+pub tab_take : (n : ℕ) (xs : List ℕ) → n ≤ length xs → tab 0 n (λ i. get_or xs i 0) ≡ take n xs
+tab_take zero xs h = refl
+tab_take (suc n) xs h =
+    tab-last (λ i. get_or xs i 0) n ∙ ap (λ (front : List ℕ). front ++ (get_or xs n 0 ∷ [])) (tab_take n xs (omega arith)) ∙ sym (take-suc xs n 0 h)

@@ -8,11 +8,10 @@ use Rattle.lists.specs.Lists.{lowest}
 use Rattle.lists.proofs.Lowest.{lowest-is}
 use Rattle.model.specs.Ranges.{◌to◌, outside, concentration}
 use Rattle.model.specs.State.{Columns, segment_at, State, state_lists, figures_at}
-use Rattle.model.specs.Refusals.{Place, refused, passes, fails, first}
+use Rattle.model.specs.Refusals.{Place, accepted, refused, passes, fails, first}
 use Rattle.model.specs.Calls.{state_fault, held_fault, report_tests, reported, report, call_result}
 use Rattle.otis.specs.declared.Figures.{Figures}
-use Rattle.otis.specs.declared.Report.TheVariants.{Reported}
-use Rattle.otis.specs.Says.{report_says}
+use Rattle.otis.specs.Says.{figures_say}
 use Rattle.calltests.specs.Tests.{state_tests}
 use Rattle.model.proofs.Ranges.{inside}
 use Rattle.calltests.proofs.RiverLaws.{columns-long, figures-long}
@@ -56,7 +55,7 @@ module _ (n : ℕ) (x : Columns) (state : State) (number : ℕ) (unfit : Bool) (
     channel = get_or state.channel (number - 1) 0;
     storage = get_or state.storage (number - 1) 0;
     sediment = get_or x.kd (number - 1) 0 * get_or state.sediment (number - 1) 0;
-  } → report_says (Reported f) ≡ (call_result n state (report x number)).answer
+  } → accepted (figures_say f) ≡ (call_result n state (report x number)).answer
   unfolding call_result reported figures_at segment_at
   report-accepted e f r = rw (report-tests ∙ e, r)
 

@@ -15,7 +15,6 @@ use Rattle.model.specs.State.{Columns, column_lists, segment_at, segments_of, St
 use Rattle.model.specs.Refusals.{Place, accepted, refused, passes, fails, first}
 use Rattle.model.specs.Highest.{block_count, highest_of, blocks_fault}
 use Rattle.model.specs.Calls.{no_working, river_fault, start_tests, start_figures, start_left, start, call_result}
-use Rattle.lists.specs.Lent.{plain}
 use Rattle.terms.specs.Lent.{state, LongFigures}
 use Rattle.otis.specs.Outcomes.{result_with}
 use Rattle.model.proofs.Refusals.{all_pass, test-clear}
@@ -57,7 +56,7 @@ module _ (n : ℕ) (x : Columns) (before : State) (lent : List ℕ) (u : ℕ) wh
   pub start-accepted : (c z w left : List ℕ) → first (start_tests n x before lent u) ≡ passes →
       c ≡ over (tab 0 n (λ i. get_or x.start i 0)) before.channel → z ≡ over (tab 0 n (λ i. get_or x.start i 0)) before.storage →
       w ≡ over (tab 0 n (λ i. get_or x.start i 0)) before.sediment → left ≡ over (highest_of n c) lent →
-      result_with (accepted (record { upstream = u; steps = 0 })) (state plain c z w u 0) left no_working ≡ call_result n before (start x lent u)
+      result_with (accepted (record { upstream = u; steps = 0 })) (state c z w u 0) left no_working ≡ call_result n before (start x lent u)
   unfolding start_left segment_at write_figures
   start-accepted c z w left e p q r t = rw (
     result-passes n before (start x lent u) e,

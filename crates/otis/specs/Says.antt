@@ -1,20 +1,21 @@
--- "For an answer that is an enum, a definition gives this paper's number and values for each of its cases."
-use Rattle.model.specs.Refusals.{Outcome, accepted, refused}
+-- What an answer says: the values that the documents give it.
+use Rattle.std.specs.Prelude.{Result}
+use Rattle.model.specs.Refusals.{Outcome}
 use Rattle.model.specs.Calls as Document
-use Rattle.terms.specs.Says.{place_says}
+use Rattle.terms.specs.declared.Refusal.{Refusal}
+use Rattle.terms.specs.Says.{outcome_says}
 use Rattle.otis.specs.declared.River.{River}
-use Rattle.otis.specs.declared.Answer.{Answer}
-use Rattle.otis.specs.declared.Answer.TheVariants as Answer
-use Rattle.otis.specs.declared.Report.{Report}
-use Rattle.otis.specs.declared.Report.TheVariants as Report
+use Rattle.otis.specs.declared.Figures.{Figures}
 
 abbrev pub river_says : River → Document.River
 river_says r = record { upstream = r.upstream; steps = r.steps }
 
-abbrev pub answer_says : Answer → Outcome Document.River
-answer_says (Answer.Accepted river) = accepted (river_says river)
-answer_says (Answer.Refused number place) = refused number (place_says place)
+abbrev pub figures_say : Figures → Document.Reported
+figures_say f = record { channel = f.channel; storage = f.storage; sediment = f.sediment }
 
-abbrev pub report_says : Report → Outcome Document.Reported
-report_says (Report.Reported f) = accepted (record { channel = f.channel; storage = f.storage; sediment = f.sediment })
-report_says (Report.Refused number place) = refused number (place_says place)
+-- the answer of a start or a step
+abbrev pub answer_says : Result River Refusal → Outcome Document.River
+answer_says = outcome_says river_says
+
+abbrev pub report_says : Result Figures Refusal → Outcome Document.Reported
+report_says = outcome_says figures_say

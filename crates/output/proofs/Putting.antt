@@ -1,19 +1,23 @@
--- Laws of `Put`: nothing put, one text put behind another, and a line that has room.
+-- Laws of `Put`: one text put behind another, and a line that has room.
 use mathlib.Core.Path.{◌≡◌, refl, sym, ap, ◌∙◌}
-use mathlib.Core.Bool.{Bool, true, false, cond, not, ◌&&◌, ◌||◌}
-use mathlib.Core.List.{List, [], ◌∷◌, ◌++◌}
+use mathlib.Core.Bool.{Bool, true, false, cond, not, ◌||◌}
+use mathlib.Core.List.{List, [], ◌∷◌, ◌++◌, append_assoc}
 use Prim.Native.Nat.{ℕ, suc, ◌+◌, ◌-◌, ◌<◌, ◌≤◌, zero-le, min}
 use native.Mathlib.Omega.{arith}
 use lib.Dec.{leb, ltb, eqb}
 use borrow.Author.Tests.{leb-true, leb-false, ltb-false, lt-ltb, ne_eqb}
-use lib.ListN.{length, length-append}
-use lib.Seq.{sets, set_out, length-sets}
+use lib.ListN.{length, length-append, take, drop, drop_of_length-le}
+use lib.Seq.{sets, sets-eq, set_out, length-sets, length-take-le}
+use Rattle.std.proofs.Math.Bool.{or-true}
+use Rattle.std.proofs.lemmas.List.{take-append-drop}
+use borrow.Rule.Slice.PartMut.{put_mid, Post-is}
+use Rattle.std.specs.Borrow.{MutBor}
 use Rattle.lists.proofs.Shorter.{neither}
-use Rattle.output.specs.Outcomes.{Put, due, Flushed, Room, PutLine, longest}
+use Rattle.output.specs.Outcomes.{Put, size, due, Flushed, Room, PutLine, longest}
 use Rattle.output.specs.declared.Output.{Output}
 
 -- past the end nothing is stored
-sets-out : (vs l : List ℕ) (i : ℕ) → length l ≤ i → sets l i vs ≡ l
+pub sets-out : (vs l : List ℕ) (i : ℕ) → length l ≤ i → sets l i vs ≡ l
 sets-out [] l i h = refl
 sets-out (v ∷ vs) l i h = rw (set_out l i v h) (sets-out vs l (suc i) (omega arith))
 
@@ -21,8 +25,27 @@ sets-append : (s t l : List ℕ) (i : ℕ) → sets l i (s ++ t) ≡ sets (sets 
 sets-append [] t l i = ap (λ k. sets l k t) (omega arith)
 sets-append (v ∷ s) t l i = sets-append s t _ (suc i) ∙ ap (λ k. sets (sets l i (v ∷ s)) k t) (omega arith)
 
-pub put-none : {o : Output} {b : List ℕ} → Put [] o b o b
-put-none = record { used = omega arith; failed = refl; bytes = refl }
+-- as much of a text as there is room for, copied into its place
+pub copied : (text b : List ℕ) (i : ℕ) {n : ℕ} → n ≡ min (length text) (length b - i) → i < length b →
+    put_mid i ((i + n) - i) b (take n text) ≡ sets b i text
+copied text b i {n} e h =
+    let front = take n text in
+    let rest = drop n text in
+    let long : length front ≡ n = length-take-le n text (omega (arith, e)) in
+    ap (λ x. take i b ++ (front ++ x)) (Post-is i (i + n) b (omega arith) ∙ ap (λ k. drop (i + k) b) (sym long))
+    ∙ sym (append_assoc (take i b) front (drop (i + length front) b))
+    ∙ sym (sets-eq front b i (omega (arith, e, long)))
+    ∙ sym (ap (λ x. sets b i x) (sym (take-append-drop n text)) ∙ sets-append front rest b i ∙ cases (leb (length text) (length b - i)) refl)
+  where
+    cases : (fits : Bool) → leb (length text) (length b - i) ≡ fits → sets (sets b i (take n text)) (i + length (take n text)) (drop n text) ≡ sets b i (take n text)
+    cases true f =
+        let all : length text ≤ length b - i = leb-true _ _ f in
+        let none : drop n text ≡ [] = drop_of_length-le text (omega (arith, e)) in
+        rw none refl
+    cases false f =
+        let cut : length b - i < length text = leb-false _ _ f in
+        let long : length (take n text) ≡ n = length-take-le n text (omega (arith, e)) in
+        sets-out (drop n text) _ _ (omega (arith, e, cut, h, long, length-sets b i (take n text)))
 
 -- where the second text begins: behind the first, or, where that was cut, past the end
 sets_behind : (t l : List ℕ) (i n : ℕ) → sets l (i + min n (length l - i)) t ≡ sets l (i + n) t
@@ -32,9 +55,10 @@ sets_behind t l i n = cases (leb (i + n) (length l)) refl
     cases true e = let h : i + n ≤ length l = leb-true _ _ e in ap (λ k. sets l (i + k) t) (omega arith)
     cases false e = let h : length l < i + n = leb-false _ _ e in sets-out t l _ (omega arith) ∙ sym (sets-out t l (i + n) (omega arith))
 
-pub put_then : {s t : List ℕ} {o r q : Output} {b b' b'' : List ℕ} → Put s o b r b' → Put t r b' q b'' → Put (s ++ t) o b q b''
-put_then {s} {t} {o} {r} {q} {b} {b'} {b''} x y =
-    let long : length b' ≡ length b = ap length x.bytes ∙ length-sets b o.used s in
+pub put_then : {s t : List ℕ} {o r q : Output} → Put s o r → Put t r q → Put (s ++ t) o q
+put_then {s} {t} {o} {r} {q} x y =
+    let b = o.buffer.now in
+    let long : size r ≡ size o = ap length x.bytes ∙ length-sets b o.used s in
     record {
       used = omega (arith, length-append s t, x.used, y.used);
       failed = y.failed ∙ x.failed;
@@ -42,47 +66,52 @@ put_then {s} {t} {o} {r} {q} {b} {b'} {b''} x y =
           y.bytes ∙ rw (x.used, x.bytes)
           (ap (λ k. sets (sets b o.used s) (o.used + min (length s) (k - o.used)) t) (sym (length-sets b o.used s))
           ∙ sets_behind t (sets b o.used s) o.used (length s) ∙ sym (sets-append s t b o.used));
+      reference = y.reference ∙ x.reference;
     }
 
-and-false : (x : Bool) → (x && false) ≡ false
-and-false true = refl
-and-false false = refl
-
-or-true : (x : Bool) → (x || true) ≡ true
-or-true true = refl
-or-true false = refl
-
 -- no more is due than the buffer has
-pub due-within : (o : Output) (n : ℕ) → (due o n).bytes ≤ n
+pub due-within : (o : Output) → (due o).bytes ≤ size o
 unfolding due
-due-within o n = cases (o.failed || ltb n o.used) refl
+due-within o = cases (o.failed || ltb (size o) o.used) refl
   where
-    cases : (t : Bool) → (o.failed || ltb n o.used) ≡ t → cond t 0 o.used ≤ n
+    cases : (t : Bool) → (o.failed || ltb (size o) o.used) ≡ t → cond t 0 o.used ≤ size o
     cases true e = zero-le
-    cases false e = ltb-false n o.used (neither o.failed (ltb n o.used) e).1
+    cases false e = ltb-false (size o) o.used (neither o.failed (ltb (size o) o.used) e).1
 
--- nothing of what the buffer has not
-due-lost : (o : Output) (n : ℕ) → n < o.used → (due o n).bytes ≡ 0
+-- nothing of what the buffer has not, so that not all the bytes used are written
+pub due-not_all : (o : Output) → size o < o.used → eqb (due o).bytes o.used ≡ false
 unfolding due
-due-lost o n h = rw (lt-ltb n o.used h, or-true o.failed)
+due-not_all o h = rw (lt-ltb (size o) o.used h, or-true o.failed) (ne_eqb 0 o.used (λ e. absurd (omega arith)))
 
--- the write that is due, made or not: it has all the bytes used, or they are lost
-pub flushed : {o r : Output} {b : List ℕ} (written : Bool) →
-    (r.used ≡ 0) × (r.failed ≡ (o.failed || not (written && eqb (due o (length b)).bytes o.used))) → Flushed o b r
-flushed {o} {r} {b} written e = record {
-  used = e.0;
-  failed = λ h. e.1 ∙ rw h;
-  lost = λ h. e.1 ∙ rw (due-lost o (length b) h, ne_eqb 0 o.used (λ q. absurd (omega arith)), and-false written) (or-true o.failed);
+-- the write that is due: all the bytes used are written, or they are lost
+pub flushed : {o r : Output} (made : Bool) → r.used ≡ 0 → r.failed ≡ (o.failed || not made) → r.buffer ≡ o.buffer →
+    (size o < o.used → made ≡ false) → Flushed o r
+flushed {o} {r} made used failed buffer lost = record {
+  used = used;
+  failed = λ h. failed ∙ rw h;
+  lost = λ h. failed ∙ rw (lost h) (or-true o.failed);
+  buffer = buffer;
 }
 
--- a buffer that can hold any line has room for one
-pub room_fits : {o from : Output} {b : List ℕ} → Room o b from → longest ≤ length b → from.used + longest ≤ length b
-room_fits {o} {from} {b} x l = cases (leb (o.used + longest) (length b)) refl
+-- room is made in the same buffer
+pub room-buffer : {o from : Output} → Room o from → from.buffer ≡ o.buffer
+room-buffer {o} {from} x = cases (leb (o.used + longest) (size o)) refl
   where
-    cases : (fits : Bool) → leb (o.used + longest) (length b) ≡ fits → from.used + longest ≤ length b
-    cases true e = let h : o.used + longest ≤ length b = leb-true _ _ e in rw (x.kept h) h
-    cases false e = omega (arith, (x.flushed (leb-false _ _ e)).used)
+    cases : (fits : Bool) → leb (o.used + longest) (size o) ≡ fits → from.buffer ≡ o.buffer
+    cases true e = ap (λ (y : Output). y.buffer) (x.kept (leb-true _ _ e))
+    cases false e = (x.flushed (leb-false _ _ e)).buffer
 
-pub put-line : {text : List ℕ} {o from r : Output} {b b' : List ℕ} → length text ≤ longest → Room o b from → Put text from b r b' → PutLine text o b r b'
-put-line {text} {o} {from} {r} {b} {b'} h x y =
+pub room-size : {o from : Output} → Room o from → size from ≡ size o
+room-size x = ap (λ (b : MutBor (List ℕ)). length b.now) (room-buffer x)
+
+-- a buffer that can hold any line has room for one
+pub room_fits : {o from : Output} → Room o from → longest ≤ size o → from.used + longest ≤ size from
+room_fits {o} {from} x l = cases (leb (o.used + longest) (size o)) refl
+  where
+    cases : (fits : Bool) → leb (o.used + longest) (size o) ≡ fits → from.used + longest ≤ size from
+    cases true e = let h : o.used + longest ≤ size o = leb-true _ _ e in rw (x.kept h) h
+    cases false e = let f = x.flushed (leb-false _ _ e) in rw (f.used, f.buffer) l
+
+pub put-line : {text : List ℕ} {o from r : Output} → length text ≤ longest → Room o from → Put text from r → PutLine text o r
+put-line {text} {o} {from} {r} h x y =
     record { from = from; room = x; put = y; whole = λ l. omega (arith, y.used, room_fits x l) }

@@ -1,173 +1,156 @@
 // The text of program `river`: lines gathered in a lent buffer, which is written to standard output when a line might no longer fit.
+// The standard library's `BufWriter` gathers on the heap, of which this project has none.
 #![tactic(auto)]
 
-ghost use Rattle.std.specs.Prelude.{◌≡◌, false, not, ◌||◌, [], ◌∷◌};
+ghost use Rattle.std.specs.Prelude.{◌≡◌, not, ◌||◌, ◌≤◌};
 ghost use Rattle.output.specs.Text.{ended, heading, line, done, refused};
-ghost use Rattle.output.specs.Outcomes.{Put, due, Flushed, Room, PutLine};
-
-// Standard output and standard error, as descriptors.
-const STDOUT: i32 = 1;
-
-const STDERR: i32 = 2;
+ghost use Rattle.output.specs.Outcomes.{size, Put, due, Fresh, Flushed, Room, PutLine};
 
 // The most bytes of a line: five numbers of 20 digits, and the byte behind each.
 pub const LINE: usize = 5 * (20 + 1);
 
-// Where the output stands: the bytes used of the buffer, which are still to be written, and whether a write has failed. After a failed write
-// nothing more is written: `due` says so of every write, and `flush` makes that one alone.
-#[derive(Clone, Copy)]
-pub struct Output {
+// The lent buffer, how many of its bytes are used, which are still to be written, and whether a write has failed. After a failed write
+// nothing more is written: `due` says so of every write, and `flush` makes that one alone. A flag and no `Result`: lines are put all the same, which
+// `PutLine` promises (what may not change).
+#[derive(Drop)]
+pub struct Output<'r, 'b> {
+    pub rt: &'r HostRuntime,
+    pub buffer: &'b mut [u8],
     pub used: usize,
     pub failed: bool,
 }
 
-// A write: to which descriptor, and how many of the buffer's first bytes.
+// A process's two streams for text; `due` says to which a write goes.
+#[derive(Clone, Copy)]
+enum Stream {
+    Stdout,
+    Stderr,
+}
+
+// A write: to which stream, and how many of the buffer's first bytes.
 #[derive(Clone, Copy)]
 struct Write {
-    descriptor: i32,
+    stream: Stream,
     bytes: usize,
 }
 
-// Writes all of these bytes to a descriptor. One of no bytes makes no call of the system.
-fn write_to(rt: &HostRuntime, descriptor: i32, bytes: &[u8]) -> bool {
-    match descriptor {
-        STDOUT => rt.stdout().write_all(bytes).is_ok(),
-        STDERR => rt.stderr().write_all(bytes).is_ok(),
-        _ => false,
-    }
-}
-
-impl Output {
-    pub fn new() -> Output
-        ensures { (result.used ≡ 0) × (result.failed ≡ false) }
+impl<'r, 'b> Output<'r, 'b> {
+    pub fn new(rt: &'r HostRuntime, buffer: &'b mut [u8]) -> Output<'r, 'b>
+        ensures { Fresh buffer.entry result }
     {
         Output {
+            rt,
+            buffer,
             used: 0,
             failed: false,
         }
     }
 
-    // No byte is used any more, whether the write was made or not.
-    fn after_write(self, written: bool) -> Output
-        ensures { (result.used ≡ 0) × (result.failed ≡ (self.failed || not written)) }
+    // The write that is due.
+    fn due(&self) -> Write
+        ensures { result ≡ due self.now }
     {
-        Output {
-            used: 0,
-            failed: self.failed | !written,
-        }
-    }
-
-    // The write that is due of a buffer of this length.
-    fn due(self, length: usize) -> Write
-        ensures { result ≡ due self length }
-    {
-        let lost = self.failed | (length < self.used);
+        let lost = self.failed || self.buffer.len() < self.used;
         Write {
-            descriptor: STDOUT,
+            stream: Stream::Stdout,
             bytes: if lost { 0 } else { self.used },
         }
     }
 
-    // Makes the write that is due; one of no bytes makes no call of the system.
-    pub fn flush(self, rt: &HostRuntime, buffer: &[u8]) -> Output
-        ensures { Flushed self buffer.now result }
+    // Makes a write. One of no bytes makes no call of the system.
+    fn write(&self, write: Write) -> bool
+        requires { write.bytes ≤ size self.now }
     {
-        let due = self.due(buffer.len());
-        let bytes = due.bytes;
-        let written = write_to(rt, due.descriptor, &buffer[..bytes]);
-        self.after_write(written & (bytes == self.used))
+        let bytes = &self.buffer[..write.bytes];
+        match write.stream {
+            Stream::Stdout => self.rt.stdout().write_all(bytes).is_ok(),
+            Stream::Stderr => self.rt.stderr().write_all(bytes).is_ok(),
+        }
+    }
+
+    // No byte is used any more, whether the write was made or not.
+    fn after_write(&mut self, written: bool)
+        ensures used { self.new.used ≡ 0 }
+        ensures failed { self.new.failed ≡ (self.old.failed || not written) }
+        ensures buffer { self.new.buffer ≡ self.old.buffer }
+    {
+        self.used = 0;
+        self.failed |= !written;
+    }
+
+    // Makes the write that is due.
+    pub fn flush(&mut self)
+        ensures { Flushed self.old self.new }
+    {
+        let due = self.due();
+        let written = self.write(due);
+        self.after_write(written && due.bytes == self.used);
     }
 
     // Writes the bytes used where a line might not fit behind them.
-    fn room(self, rt: &HostRuntime, buffer: &[u8]) -> Output
-        ensures { Room self buffer.now result }
+    fn room(&mut self)
+        ensures { Room self.old self.new }
+    {
+        if self.buffer.len() < self.used.saturating_add(LINE) {
+            self.flush();
+        }
+    }
+
+    // As much of the text as there is room for.
+    fn put_text(&mut self, text: &[u8])
+        ensures { Put text.now self.old self.new }
     {
         let used = self.used;
-        if used <= buffer.len() {
-            if LINE <= buffer.len() - used {
-                return self;
-            }
+        let size = self.buffer.len();
+        if used < size {
+            let count = text.len().min(size - used);
+            self.buffer[used..used + count].copy_from_slice(&text[..count]);
+            self.used += count;
         }
-        self.flush(rt, buffer)
     }
 
-    fn put_byte(self, buffer: &mut [u8], byte: u8) -> Output
-        ensures { Put (byte ∷ []) self buffer.old result buffer.new }
-    {
-        let used = self.used;
-        if used < buffer.len() {
-            buffer[used] = byte;
-            return Output {
-                used: used + 1,
-                failed: self.failed,
-            };
-        }
-        self
-    }
-
-    fn put_text(self, buffer: &mut [u8], text: &[u8]) -> Output
-        ensures { Put text.now self buffer.old result buffer.new }
-    {
-        let mut at = self;
-        let mut i: usize = 0;
-        while i < text.len() {
-            at = at.put_byte(&mut buffer[..], text[i]);
-            i += 1;
-        }
-        at
-    }
-
-    // A number and the byte that ends it.
-    fn put_number(self, buffer: &mut [u8], number: u64, end: u8) -> Output
-        ensures { Put (ended end number) self buffer.old result buffer.new }
+    // A number and the byte that ends it. `write!` tells what it wrote only where it answers `Ok`, and a line is promised in any case.
+    fn put_number(&mut self, number: u64, end: u8)
+        ensures { Put (ended end number) self.old self.new }
     {
         let mut digits = [0u8; 20];
         let count = io::decimal(number, &mut digits);
-        let at = self.put_text(&mut buffer[..], &digits[..count]);
-        at.put_byte(&mut buffer[..], end)
+        self.put_text(&digits[..count]);
+        self.put_text(&[end]);
     }
 
-    pub fn put_heading(self, rt: &HostRuntime, buffer: &mut [u8]) -> Output
-        ensures { PutLine heading self buffer.old result buffer.new }
+    pub fn put_heading(&mut self)
+        ensures { PutLine heading self.old self.new }
     {
-        let at = self.room(rt, &buffer[..]);
-        at.put_text(&mut buffer[..], b"step segment channel storage sediment\n")
+        self.room();
+        self.put_text(b"step segment channel storage sediment\n");
     }
 
     // Step, gauge's segment, C, Z, Kd × W.
-    pub fn put_line(
-        self,
-        rt: &HostRuntime,
-        buffer: &mut [u8],
-        step: u32,
-        segment: u32,
-        channel: u32,
-        storage: u32,
-        sediment: u64,
-    ) -> Output
-        ensures { PutLine (line step segment channel storage sediment) self buffer.old result buffer.new }
+    pub fn put_line(&mut self, step: u32, segment: u32, channel: u32, storage: u32, sediment: u64)
+        ensures { PutLine (line step segment channel storage sediment) self.old self.new }
     {
-        let at = self.room(rt, &buffer[..]);
-        let at = at.put_number(&mut buffer[..], step as u64, b' ');
-        let at = at.put_number(&mut buffer[..], segment as u64, b' ');
-        let at = at.put_number(&mut buffer[..], channel as u64, b' ');
-        let at = at.put_number(&mut buffer[..], storage as u64, b' ');
-        at.put_number(&mut buffer[..], sediment, b'\n')
+        self.room();
+        self.put_number(u64::from(step), b' ');
+        self.put_number(u64::from(segment), b' ');
+        self.put_number(u64::from(channel), b' ');
+        self.put_number(u64::from(storage), b' ');
+        self.put_number(sediment, b'\n');
     }
 
-    pub fn put_done(self, rt: &HostRuntime, buffer: &mut [u8], steps: u32) -> Output
-        ensures { PutLine (done steps) self buffer.old result buffer.new }
+    pub fn put_done(&mut self, steps: u32)
+        ensures { PutLine (done steps) self.old self.new }
     {
-        let at = self.room(rt, &buffer[..]);
-        let at = at.put_text(&mut buffer[..], b"done ");
-        at.put_number(&mut buffer[..], steps as u64, b'\n')
+        self.room();
+        self.put_text(b"done ");
+        self.put_number(u64::from(steps), b'\n');
     }
 
-    pub fn put_refused(self, rt: &HostRuntime, buffer: &mut [u8], number: u32) -> Output
-        ensures { PutLine (refused number) self buffer.old result buffer.new }
+    pub fn put_refused(&mut self, number: u32)
+        ensures { PutLine (refused number) self.old self.new }
     {
-        let at = self.room(rt, &buffer[..]);
-        let at = at.put_text(&mut buffer[..], b"refused ");
-        at.put_number(&mut buffer[..], number as u64, b'\n')
+        self.room();
+        self.put_text(b"refused ");
+        self.put_number(u64::from(number), b'\n');
     }
 }

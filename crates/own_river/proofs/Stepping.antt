@@ -5,7 +5,7 @@ use mathlib.Core.List.{List, map}
 use Prim.Native.Nat.{ℕ, suc, ◌+◌, ◌<◌, ◌≤◌}
 use native.Mathlib.Numerals.{add-one}
 use native.Mathlib.Omega.{arith}
-use borrow.Author.Tests.{eq-eqb, ne_eqb, eqb-true}
+use borrow.Author.Tests.{eqb-true}
 use lib.Dec.{eqb}
 use lib.ListN.{length, length-map, get_or}
 use Rattle.lists.specs.Lists.{tab, over}
@@ -31,7 +31,7 @@ use Rattle.own_river_laws.proofs.Ahead.{step-length, down-length, starts-length}
 use Rattle.own_river_laws.proofs.Standing.{Standing, in_range, stands_at, stands-written, step-stands}
 use Rattle.terms.specs.Lent.{LongFigures}
 use Rattle.sweep.specs.Step as Sweep
-use Rattle.own_river.specs.Sides.{width, Sides, sides_of, filled, kept, where_other, sides_for, SidesAre}
+use Rattle.own_river.specs.Sides.{width, sides_of, filled, kept, where_other, sides_for, SidesAre}
 use Rattle.own_river.specs.Ready.{OfSheet, InForce, InRange, Held, Begun, Ready, Stepped}
 use Rattle.own_river.proofs.Parts.{long-old, long-new}
 
@@ -92,8 +92,11 @@ ranging sheet n state e x =
 -- ---- a step
 
 -- the sweep looks at no count
+abbrev pub lists_state : (channel storage sediment : List ℕ) → (upstream : ℕ) → State
+lists_state channel storage sediment upstream = record { channel = channel; storage = storage; sediment = sediment; upstream = upstream; steps = 0 }
+
 abbrev pub uncounted : State → State
-uncounted x = record { channel = x.channel; storage = x.storage; sediment = x.sediment; upstream = x.upstream; steps = 0 }
+uncounted x = lists_state x.channel x.storage x.sediment x.upstream
 
 -- the flows of the step, by their numbers as they were read
 module _ (sheet : List ℕ) (steps held flow : ℕ) (list list' : List ℕ) (e : held ≡ flow_in_force sheet steps) (f : flow ≡ flow_in_force sheet (steps + 1)) where
@@ -136,7 +139,7 @@ module _ (sheet : List ℕ) (n : ℕ) (sides sides₁ : List ℕ) (state : State
 
   -- the sweep has made the step
   pub own-step : (c z w p y sides₂ : List ℕ) →
-      Sweep.Stepped n (sides_of sides₁).old (sides_of sides₁).new (uncounted state) working u' c z w p y →
+      Sweep.Stepped n (sides_of sides₁).old (sides_of sides₁).new (uncounted state) working u' (lists_state c z w 0) (record { p = p; y = y }) →
       SidesAre (where_other (flow_in_force sheet state.steps) (flow_in_force sheet (suc state.steps)) kept (sides_of sides₁)) sides₁ sides₂ →
       Stepped sheet n sides state working u' sides₂ (record { channel = c; storage = z; sediment = w; upstream = u'; steps = state.steps + 1 })
       (record { p = p; y = y })
@@ -280,13 +283,5 @@ module _ {n : ℕ} {old old' : NumberSet} {new new' : Columns} {state : State} {
   pub ready_with : Sweep.Ready n old new state working u' → Sweep.Ready n old' new' state working u'
   ready_with r = rw (e, f) r
 
-  pub stepped-with : {c z w p y : List ℕ} → Sweep.Stepped n old' new' state working u' c z w p y → Sweep.Stepped n old new state working u' c z w p y
+  pub stepped-with : {after : State} {passed : Working} → Sweep.Stepped n old' new' state working u' after passed → Sweep.Stepped n old new state working u' after passed
   stepped-with r = rw (e, f) at r
-
--- where the flow stays, and where it does not
-pub stays : (held flow : ℕ) (change : Sides → Sides) (list : List ℕ) → held ≡ flow → SidesAre (where_other held flow change (sides_of list)) list list
-stays held flow change list e = record { sides = rw (eq-eqb held flow e); long = refl }
-
-pub changes : (held flow : ℕ) (change : Sides → Sides) (list list' : List ℕ) → (held ≡ flow → ⊥) → SidesAre (change (sides_of list)) list list' →
-    SidesAre (where_other held flow change (sides_of list)) list list'
-changes held flow change list list' e h = record { sides = h.sides ∙ rw (ne_eqb held flow e); long = h.long }

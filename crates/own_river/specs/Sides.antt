@@ -1,14 +1,10 @@
 -- Both sides of a step in one list that is lent: twenty-four parts of one length, for the ten lists of the old set, the ten of the new one, CL, CB,
 -- Kd and the start figures.
-use Rattle.std.specs.Prelude.{◌≡◌, cond, List, ℕ, suc, ◌*◌, ◌/◌, eqb, length, drop, set}
+use Rattle.std.specs.Prelude.{◌≡◌, cond, List, ℕ, suc, ◌*◌, ◌/◌, eqb, length, drop}
 use Rattle.lists.specs.Lists.{stretch}
 use Rattle.model.specs.Flow.{flow_in_force}
-use Rattle.model.specs.HalfStep.{ten_of, Segment}
 use Rattle.model.specs.State.{NumberSet, Columns, loaded_segments, write_segments}
-use Rattle.terms.specs.Says.{numbers_say}
 use Rattle.terms.specs.Lent as Lent
-use Rattle.terms.specs.declared.Numbers.{Numbers}
-use Rattle.terms.specs.declared.Reach.{Reach}
 
 -- how many parts there are
 abbrev pub parts : ℕ
@@ -35,38 +31,13 @@ pub record Sides : Type 0 where
 -- in the order of their places in `terms`
 unfoldable pub sides_of : List ℕ → Sides
 sides_of list = record {
-  old = Lent.set (part_of list) 0 1 2 3 4 5 6 7 8 9;
-  new = Lent.columns (part_of list) 10 11 12 13 14 15 16 17 18 19 20 21 22 23;
+  old = Lent.set (part_of list 0) (part_of list 1) (part_of list 2) (part_of list 3) (part_of list 4)
+      (part_of list 5) (part_of list 6) (part_of list 7) (part_of list 8) (part_of list 9);
+  new = Lent.columns (part_of list 10) (part_of list 11) (part_of list 12) (part_of list 13) (part_of list 14)
+      (part_of list 15) (part_of list 16) (part_of list 17) (part_of list 18) (part_of list 19)
+      (part_of list 20) (part_of list 21) (part_of list 22) (part_of list 23);
   rest = rest_of list;
 }
-
--- the fourteen lists with this set in the place of theirs
-abbrev pub with_set : NumberSet → Columns → Columns
-with_set set x = record { numbers = set; cl = x.cl; cb = x.cb; kd = x.kd; start = x.start }
-
--- a figure is written at place i of a part; the other parts and what is left are as they were
-pub record Put (k i figure : ℕ) (before after : List ℕ) : Type 0 where
-  pub each : (j : ℕ) → part_of after j ≡ cond (eqb j k) (set (part_of before j) i figure) (part_of before j)
-  pub rest : rest_of after ≡ rest_of before
-  pub long : length after ≡ length before
-
--- this segment at place i of the new side's lists
-abbrev pub with_segment : (i : ℕ) → Segment → Sides → Sides
-with_segment i segment x = record {
-  old = x.old;
-  new = record {
-    numbers = ten_of (λ part. set (part _ x.new.numbers) i (part _ segment.numbers));
-    cl = set x.new.cl i segment.cl;
-    cb = set x.new.cb i segment.cb;
-    kd = set x.new.kd i segment.kd;
-    start = set x.new.start i segment.start;
-  };
-  rest = x.rest;
-}
-
--- a segment by its numbers and its reach
-abbrev pub segment_says : Numbers → Reach → Segment
-segment_says x own = record { numbers = numbers_say x; cl = own.cl; cb = own.cb; kd = own.kd; start = own.start }
 
 -- flow r's set and the lists that every flow shares on the new side, as a loading gives them
 abbrev pub filled : List ℕ → (r : ℕ) → Sides → Sides

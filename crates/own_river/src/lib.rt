@@ -3,18 +3,17 @@
 #![tactic(auto)]
 
 ghost use Rattle.std.specs.Prelude.{◌<◌, ◌≤◌};
-ghost use Rattle.lists.specs.Lent.{plain};
 ghost use Rattle.model.specs.Ranges.{highest, most_steps};
 ghost use Rattle.model.specs.Sheet.{flow_row_count};
-ghost use Rattle.terms.specs.Lent.{state, working, LongFigures};
-ghost use Rattle.sweep.specs.Step as Sweep;
+ghost use Rattle.terms.specs.Lent.{state_lent, working_lent, SameState, SameWorking, LongFigures};
 ghost use Rattle.own_river.specs.Sides.{width, sides_of, filled, where_other, kept, SidesAre};
 ghost use Rattle.own_river.specs.Ready.{OfSheet, Held, Begun, Ready, Stepped};
 
 use lists::copy;
 use otis::River;
 use sheet::fields::flow_in_force;
-use sides::{fill, fixed, keep, new, old, starts};
+use sides::{fill, keep, new, old, starts};
+use terms::{StateListsMut, WorkingMut};
 
 pub mod rows;
 pub mod sides;
@@ -24,29 +23,23 @@ pub fn hold(sheet: &[u8], steps: u32, n: usize, sides: &mut [u32])
     requires { OfSheet sheet.now n × (n ≤ width sides.old) }
     ensures { Held sheet.now n steps sides.old sides.new }
 {
-    fill(sheet, flow_in_force(sheet, steps), n, &mut sides[..]);
-    keep(&mut sides[..]);
+    fill(sheet, flow_in_force(sheet, steps), n, sides);
+    keep(sides);
 }
 
 // The start of n segments: "A start sets C, Z and W to the start figure, U to that of step 0 and the count to 0." Both sides hold the set of the flow
 // in force at step 0.
-pub fn start(
-    sheet: &[u8],
-    n: usize,
-    sides: &mut [u32],
-    channel: &mut [u32],
-    storage: &mut [u32],
-    sediment: &mut [u32],
-    u: u32,
-) -> River
-    requires { OfSheet sheet.now n × (n ≤ width sides.old) × LongFigures n channel.old storage.old sediment.old × (u ≤ highest) }
-    ensures { Begun sheet.now n sides.old (state plain channel.old storage.old sediment.old 0 0) u
-        sides.new (state plain channel.new storage.new sediment.new result.upstream result.steps) }
+pub fn start(sheet: &[u8], n: usize, sides: &mut [u32], state: &mut StateListsMut, u: u32) -> River
+    requires { OfSheet sheet.now n × (n ≤ width sides.old)
+        × LongFigures n state.old.channel.now state.old.storage.now state.old.sediment.now × (u ≤ highest) }
+    ensures same { SameState state.old state.new }
+    ensures begun { Begun sheet.now n sides.old (state_lent state.old 0 0) u sides.new (state_lent state.new result.upstream result.steps) }
 {
-    hold(sheet, 0, n, &mut sides[..]);
-    copy(n, starts(&sides[..]), &mut channel[..]);
-    copy(n, starts(&sides[..]), &mut storage[..]);
-    copy(n, starts(&sides[..]), &mut sediment[..]);
+    hold(sheet, 0, n, sides);
+    let starts = starts(sides);
+    copy(n, starts, &mut state.channel[..]);
+    copy(n, starts, &mut state.storage[..]);
+    copy(n, starts, &mut state.sediment[..]);
     River {
         upstream: u,
         steps: 0,
@@ -59,7 +52,7 @@ fn fill_other(sheet: &[u8], held: u32, flow: u32, n: usize, sides: &mut [u32])
     ensures { SidesAre (where_other held flow (filled sheet.now flow) (sides_of sides.old)) sides.old sides.new }
 {
     if held != flow {
-        fill(sheet, flow, n, &mut sides[..]);
+        fill(sheet, flow, n, sides);
     }
 }
 
@@ -68,77 +61,34 @@ fn keep_other(held: u32, flow: u32, sides: &mut [u32])
     ensures { SidesAre (where_other held flow kept (sides_of sides.old)) sides.old sides.new }
 {
     if held != flow {
-        keep(&mut sides[..]);
+        keep(sides);
     }
 }
 
-// The sweep over both sides: from U, which is `u`, to U', which is `next`.
-fn sweep(
-    n: usize,
-    u: u32,
-    next: u32,
-    sides: &[u32],
-    channel: &mut [u32],
-    storage: &mut [u32],
-    sediment: &mut [u32],
-    p: &mut [u64],
-    y: &mut [u64],
-)
-    requires { Sweep.Ready n (sides_of sides.now).old (sides_of sides.now).new (state plain channel.old storage.old sediment.old u 0) (working plain p.old y.old) next }
-    ensures { Sweep.Stepped n (sides_of sides.now).old (sides_of sides.now).new (state plain channel.old storage.old sediment.old u 0) (working plain p.old y.old) next
-        channel.new storage.new sediment.new p.new y.new }
-{
-    sweep::step(
-        n,
-        u,
-        next,
-        old(sides),
-        new(sides),
-        fixed(sides),
-        &mut channel[..],
-        &mut storage[..],
-        &mut sediment[..],
-        &mut p[..],
-        &mut y[..],
-    );
-}
-
-// The next step, from the state's U to U', which is `u`. p and y are working lists.
+// The next step, from the state's U to U', which is `u`.
+// The sheet, n and the lists go by their names: what is lent by `&mut` is not known behind a struct of structs (forecast tried it), and what is left of
+// parameters, and of facts on them, is no plainer in a struct of its own.
 pub fn step(
     river: River,
     sheet: &[u8],
     n: usize,
     sides: &mut [u32],
-    channel: &mut [u32],
-    storage: &mut [u32],
-    sediment: &mut [u32],
-    p: &mut [u64],
-    y: &mut [u64],
+    state: &mut StateListsMut,
+    working: &mut WorkingMut,
     u: u32,
 ) -> River
-    requires { Ready sheet.now n sides.old (state plain channel.old storage.old sediment.old river.upstream river.steps) (working plain p.old y.old)
+    requires { Ready sheet.now n sides.old (state_lent state.old river.upstream river.steps) (working_lent working.old)
         × (river.steps < most_steps) × (u ≤ highest) }
-    ensures { Stepped sheet.now n sides.old (state plain channel.old storage.old sediment.old river.upstream river.steps) (working plain p.old y.old) u
-        sides.new (state plain channel.new storage.new sediment.new result.upstream result.steps) (working plain p.new y.new) }
+    ensures same_state { SameState state.old state.new }
+    ensures same_working { SameWorking working.old working.new }
+    ensures stepped { Stepped sheet.now n sides.old (state_lent state.old river.upstream river.steps) (working_lent working.old) u
+        sides.new (state_lent state.new result.upstream result.steps) (working_lent working.new) }
 {
     let steps = river.steps + 1;
     let held = flow_in_force(sheet, river.steps);
     let flow = flow_in_force(sheet, steps);
-    fill_other(sheet, held, flow, n, &mut sides[..]);
-    sweep(
-        n,
-        river.upstream,
-        u,
-        &sides[..],
-        &mut channel[..],
-        &mut storage[..],
-        &mut sediment[..],
-        &mut p[..],
-        &mut y[..],
-    );
-    keep_other(held, flow, &mut sides[..]);
-    River {
-        upstream: u,
-        steps: steps,
-    }
+    fill_other(sheet, held, flow, n, sides);
+    sweep::step(n, river.upstream, u, old(sides), new(sides), state, working);
+    keep_other(held, flow, sides);
+    River { upstream: u, steps }
 }

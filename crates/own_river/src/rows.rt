@@ -8,13 +8,10 @@ use sheet::fields::{row_concentration, row_count, row_start};
 pub fn upstream_at(sheet: &[u8], j: u32) -> u32
     ensures { result ≡ rows_upstream sheet.now j }
 {
-    let mut r = row_count(sheet);
-    while r > 0 {
-        let row = r as usize - 1;
+    for row in (0..row_count(sheet) as usize).rev() {
         if row_start(sheet, row) <= j {
             return row_concentration(sheet, row);
         }
-        r -= 1;
     }
     0
 }

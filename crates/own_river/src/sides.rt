@@ -1,16 +1,15 @@
-// Both sides of a step in one list: twenty-four parts of one length, the ten lists of the old set, the ten of the new one, CL, CB, Kd and the
-// start figures, in the order of their places in `terms`.
-ghost use Rattle.std.specs.Prelude.{◌≡◌, ℕ, ◌<◌, ◌≤◌, List};
-ghost use Rattle.std.specs.Borrow.{Bor};
-ghost use Rattle.terms.specs.Lent.{set_of, columns_of};
+// Both sides of a step in one list, as C lends them: twenty-four parts of one length, the ten lists of the old set, the ten of the new one, CL,
+// CB, Kd and the start figures.
+ghost use Rattle.std.specs.Prelude.{◌≡◌, ◌<◌, ◌≤◌};
+ghost use Rattle.terms.specs.Lent.{set_of, columns, columns_of, Long};
 ghost use Rattle.model.specs.Sheet.{flow_row_count};
-ghost use Rattle.own_river.specs.Sides.{parts, width, part_of, sides_of, Put, with_set, with_segment, segment_says, filled, kept, SidesAre};
+ghost use Rattle.model.specs.Flow.{course_of};
+ghost use Rattle.model.specs.State.{loaded_segments, write_segments};
+ghost use Rattle.course.specs.Segments.{Clear, Read};
 ghost use Rattle.own_river.specs.Ready.{OfSheet};
+ghost use Rattle.own_river.specs.Sides.{parts, width, part_of, sides_of, filled, kept, SidesAre};
 
-use bands::Bands;
-use course::descent::Cursor;
-use sheet::fields::{dt, dx, reach, top_of};
-use terms::{Fixed, Numbers, Reach, Set};
+use terms::{Columns, ColumnsMut, Set};
 
 // The parts of the list.
 pub const PARTS: usize = 24;
@@ -19,44 +18,57 @@ pub const PARTS: usize = 24;
 const LISTS: usize = 10;
 
 // The part with this number.
-fn part<'a>(sides: &'a [u32], k: usize) -> &'a [u32]
+fn part(sides: &[u32], k: usize) -> &[u32]
     requires { k < parts }
     ensures { result.now ≡ part_of sides.now k }
 {
     let width = sides.len() / PARTS;
-    let first = k * width;
-    let end = first + width;
-    &sides[first..end]
+    &sides[k * width..][..width]
 }
 
-// A figure at place i of a part.
-fn put(sides: &mut [u32], k: usize, i: usize, figure: u32)
-    requires { (k < parts) × (i < width sides.old) }
-    ensures { Put k i figure sides.old sides.new }
+// A loading's fourteen lists, lent one by one: once parts of one list stand in a struct, a proof knows the list's length alone (tried).
+fn load(
+    sheet: &[u8],
+    row: u32,
+    n: usize,
+    e: &mut [u32],
+    g: &mut [u32],
+    l: &mut [u32],
+    a: &mut [u32],
+    b: &mut [u32],
+    k: &mut [u32],
+    ks: &mut [u32],
+    h: &mut [u32],
+    m: &mut [u32],
+    s: &mut [u32],
+    cl: &mut [u32],
+    cb: &mut [u32],
+    kd: &mut [u32],
+    start: &mut [u32],
+)
+    requires { Read sheet.now n × Clear 13 n (course_of sheet.now row)
+        × Long n (columns e.old g.old l.old a.old b.old k.old ks.old h.old m.old s.old cl.old cb.old kd.old start.old) }
+    ensures { columns e.new g.new l.new a.new b.new k.new ks.new h.new m.new s.new cl.new cb.new kd.new start.new
+        ≡ write_segments (loaded_segments sheet.now row)
+        (columns e.old g.old l.old a.old b.old k.old ks.old h.old m.old s.old cl.old cb.old kd.old start.old) }
 {
-    let width = sides.len() / PARTS;
-    sides[k * width + i] = figure;
-}
-
-// Segment i on the new side.
-fn put_segment(sides: &mut [u32], i: usize, numbers: Numbers, own: Reach)
-    requires { i < width sides.old }
-    ensures { SidesAre (with_segment i (segment_says numbers own) (sides_of sides.old)) sides.old sides.new }
-{
-    put(&mut sides[..], 10, i, numbers.e);
-    put(&mut sides[..], 11, i, numbers.g);
-    put(&mut sides[..], 12, i, numbers.l);
-    put(&mut sides[..], 13, i, numbers.a);
-    put(&mut sides[..], 14, i, numbers.b);
-    put(&mut sides[..], 15, i, numbers.k);
-    put(&mut sides[..], 16, i, numbers.ks);
-    put(&mut sides[..], 17, i, numbers.h);
-    put(&mut sides[..], 18, i, numbers.m);
-    put(&mut sides[..], 19, i, numbers.s);
-    put(&mut sides[..], 20, i, own.cl);
-    put(&mut sides[..], 21, i, own.cb);
-    put(&mut sides[..], 22, i, own.kd);
-    put(&mut sides[..], 23, i, own.start);
+    let mut lists = ColumnsMut {
+        e,
+        g,
+        l,
+        a,
+        b,
+        k,
+        ks,
+        h,
+        m,
+        s,
+        cl,
+        cb,
+        kd,
+        start,
+    };
+    columns::fill(sheet, row, n, &mut lists);
 }
 
 // The new side of n segments off the sheet: this flow's set, and the lists that every flow shares.
@@ -64,26 +76,25 @@ pub fn fill(sheet: &[u8], row: u32, n: usize, sides: &mut [u32])
     requires { OfSheet sheet.now n × (row ≤ flow_row_count sheet.now) × (n ≤ width sides.old) }
     ensures { SidesAre (filled sheet.now row (sides_of sides.old)) sides.old sides.new }
 {
-    let top = top_of(sheet, row);
-    let dt = dt(sheet);
-    let dx = dx(sheet);
-    let mut own = reach(sheet, 0);
-    let mut table = Bands::first(sheet);
-    let mut here = Cursor::first(sheet, top, dx, own, table);
-    let mut above = here.ad();
-    let mut i: usize = 0;
-    while i < n {
-        let lower = here.reach_below(sheet, own);
-        let lower_table = here.bands_below(sheet, own, table);
-        let below = here.below(sheet, top, dx, n, i, own, lower, lower_table);
-        let site = here.site(own, above, below.ad(), i + 1 == n, dt, dx);
-        put_segment(&mut sides[..], i, site.numbers(), own);
-        above = here.ad();
-        own = lower;
-        table = lower_table;
-        here = below;
-        i += 1;
-    }
+    let width = sides.len() / PARTS;
+    let (_, new) = sides.split_at_mut(LISTS * width);
+    let (e, rest) = new.split_at_mut(width);
+    let (g, rest) = rest.split_at_mut(width);
+    let (l, rest) = rest.split_at_mut(width);
+    let (a, rest) = rest.split_at_mut(width);
+    let (b, rest) = rest.split_at_mut(width);
+    let (k, rest) = rest.split_at_mut(width);
+    let (ks, rest) = rest.split_at_mut(width);
+    let (h, rest) = rest.split_at_mut(width);
+    let (m, rest) = rest.split_at_mut(width);
+    let (s, rest) = rest.split_at_mut(width);
+    let (cl, rest) = rest.split_at_mut(width);
+    let (cb, rest) = rest.split_at_mut(width);
+    let (kd, rest) = rest.split_at_mut(width);
+    let (start, _) = rest.split_at_mut(width);
+    load(
+        sheet, row, n, e, g, l, a, b, k, ks, h, m, s, cl, cb, kd, start,
+    );
 }
 
 // The new side's set over the old side's.
@@ -91,65 +102,64 @@ pub fn keep(sides: &mut [u32])
     ensures { SidesAre (kept (sides_of sides.old)) sides.old sides.new }
 {
     let set = LISTS * (sides.len() / PARTS);
-    let mut i: usize = 0;
-    while i < set {
-        sides[i] = sides[set + i];
-        i += 1;
-    }
+    sides.copy_within(set..2 * set, 0);
 }
 
 // The set of the old side.
-pub fn old<'a>(sides: &'a [u32]) -> Set<'a>
+#[tactic(auto, unfolding(crate::specs::Sides::sides_of))]
+pub fn old(sides: &[u32]) -> Set
     ensures { set_of result ≡ (sides_of sides.now).old }
 {
-    [
-        part(sides, 0),
-        part(sides, 1),
-        part(sides, 2),
-        part(sides, 3),
-        part(sides, 4),
-        part(sides, 5),
-        part(sides, 6),
-        part(sides, 7),
-        part(sides, 8),
-        part(sides, 9),
-    ]
+    Set {
+        e: part(sides, 0),
+        g: part(sides, 1),
+        l: part(sides, 2),
+        a: part(sides, 3),
+        b: part(sides, 4),
+        k: part(sides, 5),
+        ks: part(sides, 6),
+        h: part(sides, 7),
+        m: part(sides, 8),
+        s: part(sides, 9),
+    }
 }
 
-// The set of the new side.
-pub fn new<'a>(sides: &'a [u32]) -> Set<'a>
-    ensures { set_of result ≡ (sides_of sides.now).new.numbers }
+// The fourteen lists of the new side.
+#[tactic(auto, unfolding(crate::specs::Sides::sides_of))]
+pub fn new(sides: &[u32]) -> Columns
+    ensures { columns_of result ≡ (sides_of sides.now).new }
 {
-    [
-        part(sides, 10),
-        part(sides, 11),
-        part(sides, 12),
-        part(sides, 13),
-        part(sides, 14),
-        part(sides, 15),
-        part(sides, 16),
-        part(sides, 17),
-        part(sides, 18),
-        part(sides, 19),
-    ]
-}
-
-// The four lists that every flow shares.
-pub fn fixed<'a>(sides: &'a [u32]) -> Fixed<'a>
-    ensures { (numbers : List (Bor (List ℕ))) → columns_of numbers result ≡ with_set (set_of numbers) (sides_of sides.now).new }
-{
-    [part(sides, 20), part(sides, 21), kd(sides), starts(sides)]
+    Columns {
+        numbers: Set {
+            e: part(sides, 10),
+            g: part(sides, 11),
+            l: part(sides, 12),
+            a: part(sides, 13),
+            b: part(sides, 14),
+            k: part(sides, 15),
+            ks: part(sides, 16),
+            h: part(sides, 17),
+            m: part(sides, 18),
+            s: part(sides, 19),
+        },
+        cl: part(sides, 20),
+        cb: part(sides, 21),
+        kd: kd(sides),
+        start: starts(sides),
+    }
 }
 
 // Kd among them.
-pub fn kd<'a>(sides: &'a [u32]) -> &'a [u32]
+#[tactic(auto, unfolding(crate::specs::Sides::sides_of))]
+pub fn kd(sides: &[u32]) -> &[u32]
     ensures { result.now ≡ (sides_of sides.now).new.kd }
 {
     part(sides, 22)
 }
 
 // And the start figures.
-pub fn starts<'a>(sides: &'a [u32]) -> &'a [u32]
+#[tactic(auto, unfolding(crate::specs::Sides::sides_of))]
+pub fn starts(sides: &[u32]) -> &[u32]
     ensures { result.now ≡ (sides_of sides.now).new.start }
 {
     part(sides, 23)

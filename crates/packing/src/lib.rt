@@ -2,7 +2,7 @@
 // river's start figures stand behind them; and the table that says so.
 #![tactic(auto)]
 
-ghost use Rattle.std.specs.Prelude.{◌≡◌, false, cond, map, ◌+◌, ◌<◌, ◌≤◌, length, get_or, set};
+ghost use Rattle.std.specs.Prelude.{◌≡◌, false, map, ◌+◌, ◌<◌, ◌≤◌, length, get_or, set};
 ghost use Rattle.lists.specs.Lists.{tab, over};
 ghost use Rattle.model.specs.Ranges.{most_segments, most_rivers};
 ghost use Rattle.model.specs.Pool.{slot_at, open_segments, table_fault, holds, covered, covered_below, kept, packed, moved, new_slot};
@@ -11,84 +11,50 @@ ghost use Rattle.pool_table.specs.Says.{slot_says};
 
 use limits::{MOST_SEGMENTS, RIVERS};
 use lists::copy;
-use pool_table::{Slot, Table, end_of, is_open, put, taken};
+use pool_table::{Slot, Table, put, taken};
 
 // Segment s of the shared lists is the slot's.
-fn holds_at(x: Slot, s: u32) -> bool
-    ensures { result ≡ holds (slot_says x) s }
+fn holds(slot: Slot, s: u32) -> bool
+    ensures { result ≡ holds (slot_says slot) s }
 {
-    if is_open(x) {
-        if x.first <= s {
-            return (s as usize) < end_of(x);
-        }
-        return false;
-    }
-    false
+    slot.is_open() && slot.first <= s && (s as usize) < slot.end()
 }
 
 // It is an open river's.
 fn is_covered(table: Table, s: u32) -> bool
     ensures { result ≡ covered (table_in table) s }
 {
-    let mut i: usize = 0;
-    while i < RIVERS {
-        if holds_at(taken(table, i), s) {
-            return true;
-        }
-        i += 1;
-    }
-    false
-}
-
-fn next_if(is: bool, to: u32) -> u32
-    requires { to < 4294967295 }
-    ensures { result ≡ cond is (to + 1) to }
-{
-    if is {
-        return to + 1;
-    }
-    to
+    (0..RIVERS).any(|i| holds(taken(table, i), s))
 }
 
 // How many of the first `end` segments are open rivers'.
+// A `for` and no chain: the sum is a definition of the pool's, and the loop is its turn; a chain is no plainer.
 fn covered_below(table: Table, end: u32) -> u32
     requires { end ≤ most_segments }
     ensures { result ≡ covered_below (table_in table) end }
 {
     let mut to: u32 = 0;
-    let mut s: u32 = 0;
-    while s < end {
-        to = next_if(is_covered(table, s), to);
-        s += 1;
+    for s in 0..end {
+        if is_covered(table, s) {
+            to += 1;
+        }
     }
     to
 }
 
-// The entry at s also at `to`, where it is to be kept.
-fn keep_at(list: &mut [u32], is: bool, to: u32, s: u32)
-    requires { (to ≤ s) × (s < length list.old) }
-    ensures { list.new ≡ cond is (set list.old to (get_or list.old s 0)) list.old }
-{
-    if is {
-        let i = s as usize;
-        let j = to as usize;
-        list[j] = list[i];
-    }
-}
-
 // The open rivers' entries to the front of a shared list, in their order; how many they are.
+// `to` is moved by hand: no method of a slice packs in place, and those of `Vec` want a heap.
 fn pack(table: Table, list: &mut [u32]) -> u32
     requires { most_segments ≤ length list.old }
     ensures list { list.new ≡ over (kept (table_in table) most_segments list.old) list.old }
     ensures count { result ≡ covered_below (table_in table) most_segments }
 {
     let mut to: u32 = 0;
-    let mut s: u32 = 0;
-    while s < MOST_SEGMENTS {
-        let is = is_covered(table, s);
-        keep_at(list, is, to, s);
-        to = next_if(is, to);
-        s += 1;
+    for s in 0..MOST_SEGMENTS {
+        if is_covered(table, s) {
+            list[to as usize] = list[s as usize];
+            to += 1;
+        }
     }
     to
 }
@@ -104,21 +70,19 @@ pub fn pack_with(table: Table, n: usize, figures: &[u32], list: &mut [u32])
 }
 
 // The slot at place i as its river has moved.
+// That the table passes 18 stays a clause: a struct for it would be made in one function and read in the two below it, no plainer.
 fn moved_slot(table: Table, i: usize) -> Slot
     requires { (i < most_rivers) × (table_fault (table_in table) ≡ false) }
     ensures { slot_says result ≡ moved (table_in table) (slot_at (table_in table) i) }
 {
-    let x = taken(table, i);
-    if is_open(x) {
-        return Slot {
-            opened: x.opened,
-            first: covered_below(table, x.first),
-            segments: x.segments,
-            upstream: x.upstream,
-            steps: x.steps,
-        };
+    let slot = taken(table, i);
+    if !slot.is_open() {
+        return slot;
     }
-    x
+    Slot {
+        first: covered_below(table, slot.first),
+        ..slot
+    }
 }
 
 // All of them.
@@ -127,10 +91,8 @@ fn move_slots(table: &mut Table)
     ensures { table_in table.new ≡ map (moved (table_in table.old)) (table_in table.old) }
 {
     let before = *table;
-    let mut i: usize = 0;
-    while i < RIVERS {
+    for i in 0..RIVERS {
         put(table, i, moved_slot(before, i));
-        i += 1;
     }
 }
 

@@ -1,2 +1,2 @@
-pub mod Stretched
 pub mod Opened
+pub mod Stretched

@@ -1,138 +1,182 @@
 // The calls on a pool: a table and three lists that up to eight rivers share. Each river works on its own stretch of the lists.
 #![tactic(auto)]
 
-ghost use Rattle.std.specs.Prelude.{◌≡◌, false, ◌||◌, [], ◌∷◌, ◌+◌, ◌≤◌, ltb, length};
-ghost use Rattle.lists.specs.Lists.{any_under};
-ghost use Rattle.lists.specs.Lent.{plain};
-ghost use Rattle.model.specs.Ranges.{outside, concentration, most_segments};
-ghost use Rattle.model.specs.Sheet.{segment_count};
-ghost use Rattle.model.specs.Highest.{block_count};
-ghost use Rattle.model.specs.Refusals.{passes, test, first};
-ghost use Rattle.model.specs.Calls.{no_working, Call};
-ghost use Rattle.model.specs.Pool.{shared_lists, open_segments, room_fault, table_fault, pool_tests, pool_result, close_finding, closed_table, open_answer, open_columns, pool_open, open_highest};
+ghost use Rattle.std.specs.Prelude.{◌≡◌, ℕ, List, [], IfOk};
+ghost use Rattle.model.specs.Refusals.{first};
+ghost use Rattle.model.specs.Calls.{no_working, Call, call_result};
+ghost use Rattle.model.specs.Pool.{slot_of, shared_lists, shared_fault, pool_tests, pool_result, close_finding, closed_table};
+ghost use Rattle.model.specs.Pool.{open_tests, open_answer, open_columns, pool_open, open_highest};
 ghost use Rattle.terms.specs.Says.{finding_says};
-ghost use Rattle.terms.specs.Lent.{columns, set_of, columns_of, working, table_in, pool};
+ghost use Rattle.terms.specs.Lent.{columns_lent, SameColumns, SameState, set_of, columns_of, table_in};
+ghost use Rattle.terms.specs.Lent.{state, pool_of, pool_lent, pool_left, working, working_lent, working_left};
+ghost use Rattle.pool_table.specs.Says.{slot_says};
 ghost use Rattle.assembly.specs.Says.{load_says};
 ghost use Rattle.otis.specs.Says.{answer_says, report_says};
-ghost use Rattle.otis.specs.Outcomes.{result_with};
-ghost use Rattle.pool_table.specs.Says.{slot_says};
-ghost use Rattle.pool.specs.Left.{table_after, WhereLoaded, list_after_open, highest_after_open, table_after_open};
+ghost use Rattle.otis.specs.Outcomes.{state_after, result_with};
 
-use assembly::{Load, Loaded, list_test, river_test};
-use limits::{HIGHEST, SEGMENTS};
+use assembly::{Loaded, list_test, river_test};
+use limits::{CONCENTRATION, SEGMENTS, outside};
 use lists::any_short;
-use otis::{Answer, Report, River};
+use otis::{Figures, River};
 use packing::{pack_table, pack_with};
-use pool_table::{Slot, Table, number_fault, put, room_fault, slot_with, table_fault, taken};
+use pool_table::{Slot, Table, open_slot, put, room_fault, table_fault};
 use sheet::fields::segment_count;
-use terms::{Finding, Fixed, Place, Set};
+use std::ops::Range;
+use terms::{Columns, ColumnsMut, Fault, Refusal, Set, StateLists, StateListsMut, WorkingMut};
 
-// The entries of a shared list that 13 wants.
-const ENTRIES: usize = SEGMENTS.high as usize;
-
-// 18, and then 13 of the shared lists.
-pub fn pool_test(
-    river: u32,
-    channel: &[u32],
-    storage: &[u32],
-    sediment: &[u32],
-    table: &Table,
-) -> Finding
-    ensures { finding_says result ≡ first (pool_tests (table_in table.now) (shared_lists (pool plain channel.now storage.now sediment.now table.now)) river) }
+// 13 of the shared lists.
+#[tactic(auto, unfolding(model::specs::Pool::shared_fault, lists::specs::Lists::any_shorter, lists::specs::Lists::any_under))]
+fn shared_fault(shared: StateLists) -> bool
+    ensures { result ≡ shared_fault (shared_lists (pool_of shared.entry [])) }
 {
-    if number_fault(*table, river) {
-        return Finding::Fails(18, Place::Nothing);
-    }
-    if any_short(ENTRIES, &[channel.len(), storage.len(), sediment.len()]) {
-        return Finding::Fails(13, Place::Nothing);
-    }
-    Finding::Passes
+    any_short(
+        SEGMENTS.high as usize,
+        &[
+            shared.channel.len(),
+            shared.storage.len(),
+            shared.sediment.len(),
+        ],
+    )
 }
 
-// Puts U and the count of an accepted start or step into the river's slot; of a refused one nothing.
-fn keep(answer: Answer, table: &mut Table, i: usize, x: Slot)
-    ensures { table_in table.new ≡ table_after (answer_says answer) (table_in table.old) i (slot_says x) }
+// 18, and then 13 of the shared lists: the river's slot where both pass.
+pub fn pool_test(river: u32, shared: StateLists, table: &Table) -> Result<Slot, Refusal>
+    ensures finding { finding_says result ≡ first (pool_tests (table_in table.now) (shared_lists (pool_of shared.entry table.now)) river) }
+    ensures slot { IfOk result (λ x. slot_says x ≡ slot_of (table_in table.now) river) }
 {
-    match answer {
-        Answer::Accepted(river) => put(table, i, slot_with(x, river.upstream, river.steps)),
-        Answer::Refused(_, _) => {}
+    let slot = open_slot(*table, river)?;
+    Fault::ListLength.test(shared_fault(shared))?;
+    Ok(slot)
+}
+
+// U and the count of steps done, as the slot has them.
+fn river_in(slot: Slot) -> River
+    ensures { result ≡ record { upstream = slot.upstream; steps = slot.steps } }
+{
+    River {
+        upstream: slot.upstream,
+        steps: slot.steps,
     }
 }
 
-// A start of an open river: tests 18, 13 and 14. `highest` is the river's own list.
-pub fn start(
-    river: u32,
-    numbers: Set,
-    fixed: Fixed,
+// Document 01's start, lent each list by itself: what becomes of a part that is lent inside a struct is not known afterwards.
+fn start_on(
+    n: u32,
+    columns: Columns,
     channel: &mut [u32],
     storage: &mut [u32],
     sediment: &mut [u32],
     highest: &mut [u32],
+    u: u32,
+) -> Result<River, Refusal>
+    ensures { (upstream steps : ℕ) →
+        result_with (answer_says result) (state_after (state channel.new storage.new sediment.new) (answer_says result) upstream steps)
+        highest.new no_working
+        ≡ call_result n (state channel.old storage.old sediment.old upstream steps) (Call.start (columns_of columns.entry) highest.old u) }
+{
+    let state = StateListsMut {
+        channel,
+        storage,
+        sediment,
+    };
+    River::start(n, columns, state, highest, u)
+}
+
+// Document 01's step, for the same reason.
+fn step_on(
+    held: River,
+    n: u32,
+    old: Set,
+    new: Columns,
+    channel: &mut [u32],
+    storage: &mut [u32],
+    sediment: &mut [u32],
+    highest: &mut [u32],
+    p: &mut [u64],
+    y: &mut [u64],
+    u: u32,
+    steps: u32,
+) -> Result<River, Refusal>
+    ensures { result_with (answer_says result)
+        (state_after (state channel.new storage.new sediment.new) (answer_says result) held.upstream held.steps) highest.new (working p.new y.new)
+        ≡ call_result n (state channel.old storage.old sediment.old held.upstream held.steps)
+        (Call.step (set_of old.entry) (columns_of new.entry) highest.old (working p.old y.old) u steps) }
+{
+    let state = StateListsMut {
+        channel,
+        storage,
+        sediment,
+    };
+    held.step(n, old, new, state, highest, WorkingMut { p, y }, u, steps)
+}
+
+// A start of an open river: tests 18, 13 and 14. `highest` is the river's own list.
+// The shared lists and the table go side by side, here and below: of a struct that holds a struct of `&mut` a caller's proof no longer knows what stands in
+// its lists (forecast tried it).
+pub fn start(
+    river: u32,
+    columns: Columns,
+    shared: StateListsMut,
+    highest: &mut [u32],
     table: &mut Table,
     u: u32,
-) -> Answer
-    ensures { result_with (answer_says result) (pool plain channel.new storage.new sediment.new table.new) highest.new no_working
-        ≡ pool_result (pool plain channel.old storage.old sediment.old table.old) river (Call.start (columns_of numbers.entry fixed.entry) highest.old u) }
+) -> Result<River, Refusal>
+    ensures { result_with (answer_says result) (pool_left shared.exit table.new) highest.new no_working
+        ≡ pool_result (pool_lent shared.entry table.old) river (Call.start (columns_of columns.entry) highest.old u) }
 {
-    let found = pool_test(river, &channel[..], &storage[..], &sediment[..], &*table);
-    if let Finding::Fails(number, place) = found {
-        return Answer::Refused(number, place);
-    }
-    let at = river as usize - 1;
-    let x = taken(*table, at);
-    let first = x.first as usize;
-    let end = first + (x.segments as usize);
-    let answer = River::start(
-        x.segments,
-        numbers,
-        fixed,
+    let slot = pool_test(river, shared.read(), &*table)?;
+    let Range { start: first, end } = slot.stretch();
+    let StateListsMut {
+        channel,
+        storage,
+        sediment,
+    } = shared;
+    let started = start_on(
+        slot.segments,
+        columns,
         &mut channel[first..end],
         &mut storage[first..end],
         &mut sediment[first..end],
         highest,
         u,
+    )?;
+    put(
+        table,
+        river as usize - 1,
+        slot.with_state(started.upstream, started.steps),
     );
-    keep(answer, table, at, x);
-    answer
+    Ok(started)
 }
 
 // A step of an open river: tests 18, 13, 14 and 15.
 pub fn step(
     river: u32,
     old: Set,
-    new: Set,
-    fixed: Fixed,
-    channel: &mut [u32],
-    storage: &mut [u32],
-    sediment: &mut [u32],
+    new: Columns,
+    shared: StateListsMut,
     highest: &mut [u32],
     table: &mut Table,
-    p: &mut [u64],
-    y: &mut [u64],
+    working: WorkingMut,
     u: u32,
     steps: u32,
-) -> Answer
-    ensures { result_with (answer_says result) (pool plain channel.new storage.new sediment.new table.new) highest.new (working plain p.new y.new)
-        ≡ pool_result (pool plain channel.old storage.old sediment.old table.old) river
-        (Call.step (set_of old.entry) (columns_of new.entry fixed.entry) highest.old (working plain p.old y.old) u steps) }
+) -> Result<River, Refusal>
+    ensures { result_with (answer_says result) (pool_left shared.exit table.new) highest.new (working_left working.exit)
+        ≡ pool_result (pool_lent shared.entry table.old) river
+        (Call.step (set_of old.entry) (columns_of new.entry) highest.old (working_lent working.entry) u steps) }
 {
-    let found = pool_test(river, &channel[..], &storage[..], &sediment[..], &*table);
-    if let Finding::Fails(number, place) = found {
-        return Answer::Refused(number, place);
-    }
-    let at = river as usize - 1;
-    let x = taken(*table, at);
-    let first = x.first as usize;
-    let end = first + (x.segments as usize);
-    let held = River {
-        upstream: x.upstream,
-        steps: x.steps,
-    };
-    let answer = held.step(
-        x.segments,
+    let slot = pool_test(river, shared.read(), &*table)?;
+    let Range { start: first, end } = slot.stretch();
+    let StateListsMut {
+        channel,
+        storage,
+        sediment,
+    } = shared;
+    let WorkingMut { p, y } = working;
+    let stepped = step_on(
+        river_in(slot),
+        slot.segments,
         old,
         new,
-        fixed,
         &mut channel[first..end],
         &mut storage[first..end],
         &mut sediment[first..end],
@@ -141,213 +185,111 @@ pub fn step(
         y,
         u,
         steps,
+    )?;
+    put(
+        table,
+        river as usize - 1,
+        slot.with_state(stepped.upstream, stepped.steps),
     );
-    keep(answer, table, at, x);
-    answer
+    Ok(stepped)
 }
 
 // A report of a segment of an open river, which counts from 1: tests 18, 13 and 14.
 pub fn report(
     river: u32,
-    numbers: Set,
-    fixed: Fixed,
-    channel: &[u32],
-    storage: &[u32],
-    sediment: &[u32],
+    columns: Columns,
+    shared: StateLists,
     table: &Table,
     segment: u32,
-) -> Report
-    ensures { report_says result ≡ (pool_result (pool plain channel.now storage.now sediment.now table.now) river
-        (Call.report (columns_of numbers.entry fixed.entry) segment)).answer }
+) -> Result<Figures, Refusal>
+    ensures { report_says result ≡ (pool_result (pool_of shared.entry table.now) river (Call.report (columns_of columns.entry) segment)).answer }
 {
-    let found = pool_test(river, channel, storage, sediment, table);
-    if let Finding::Fails(number, place) = found {
-        return Report::Refused(number, place);
-    }
-    let x = taken(*table, river as usize - 1);
-    let first = x.first as usize;
-    let end = first + (x.segments as usize);
-    let held = River {
-        upstream: x.upstream,
-        steps: x.steps,
+    let slot = pool_test(river, shared, table)?;
+    let Range { start: first, end } = slot.stretch();
+    let stretch = StateLists {
+        channel: &shared.channel[first..end],
+        storage: &shared.storage[first..end],
+        sediment: &shared.sediment[first..end],
     };
-    held.report(
-        x.segments,
-        numbers,
-        fixed,
-        &channel[first..end],
-        &storage[first..end],
-        &sediment[first..end],
-        segment,
-    )
+    river_in(slot).report(slot.segments, columns, stretch, segment)
 }
 
 // A closing: 18 alone.
-pub fn close(river: u32, table: &mut Table) -> Finding
+pub fn close(river: u32, table: &mut Table) -> Result<(), Refusal>
     ensures answer { finding_says result ≡ close_finding (table_in table.old) river }
     ensures table { table_in table.new ≡ closed_table (table_in table.old) river }
 {
-    if number_fault(*table, river) {
-        return Finding::Fails(18, Place::Nothing);
-    }
-    let at = river as usize - 1;
-    let x = taken(*table, at);
-    put(
-        table,
-        at,
-        Slot {
-            opened: 0,
-            first: x.first,
-            segments: x.segments,
-            upstream: x.upstream,
-            steps: x.steps,
-        },
-    );
-    Finding::Passes
+    let slot = open_slot(*table, river)?;
+    put(table, river as usize - 1, Slot { opened: 0, ..slot });
+    Ok(())
 }
 
-// 17, and then 18 of the table alone, behind tests 1 to 12.
-fn room_test(found: Finding, sheet: &[u8], table: &Table, river: u32) -> Finding
-    requires { finding_says found ≡ passes → segment_count sheet.now ≤ most_segments }
-    ensures { finding_says result ≡ first (finding_says found ∷ test 17 (room_fault (table_in table.now) river (segment_count sheet.now))
-        ∷ test 18 (table_fault (table_in table.now)) ∷ []) }
+// The tests of an opening: 1 to 12 with 16 and 19 among them, 17, 18, 13 and 14. Of the list of reach records it is handed the length.
+#[tactic(auto, using(assembly::proofs::TestsInTurn::in_turn), unfolding(model::specs::Pool::open_tests, model::specs::Highest::blocks_fault))]
+fn open_test(
+    river: u32,
+    sheet: &[u8],
+    row: u32,
+    records: usize,
+    columns: &ColumnsMut,
+    shared: &StateListsMut,
+    highest: &[u32],
+    table: Table,
+    u: u32,
+) -> Result<(), Refusal>
+    ensures { finding_says result
+        ≡ first (open_tests sheet.now row records (columns_lent columns.now) (pool_lent shared.now table) river highest.now u) }
 {
-    if let Finding::Fails(number, place) = found {
-        return Finding::Fails(number, place);
-    }
-    if room_fault(*table, river, segment_count(sheet) as u32) {
-        return Finding::Fails(17, Place::Nothing);
-    }
-    if table_fault(*table) {
-        return Finding::Fails(18, Place::Nothing);
-    }
-    Finding::Passes
+    river_test(sheet)?;
+    let n = segment_count(sheet) as u32;
+    Fault::Room.test(room_fault(table, river, n))?;
+    Fault::NotOpen.test(table_fault(table))?;
+    list_test(sheet, row, records, columns)?;
+    Fault::ListLength.test(shared_fault(shared.read()) | (highest.len() < blocks::count(n)))?;
+    Fault::Figure.test(outside(CONCENTRATION, u64::from(u)))
 }
 
-// 13 of the shared lists and of the highest figures, by their lengths, and then 14 of U, behind the tests before.
-fn last_test(found: Finding, sheet: &[u8], shared: &[usize], highest: usize, u: u32) -> Finding
-    requires { finding_says found ≡ passes → segment_count sheet.now ≤ most_segments }
-    ensures { finding_says result ≡ first (finding_says found
-        ∷ test 13 (any_under most_segments shared.now || ltb highest (block_count (segment_count sheet.now))) ∷ test 14 (outside concentration u) ∷ []) }
-{
-    if let Finding::Fails(number, place) = found {
-        return Finding::Fails(number, place);
-    }
-    if any_short(ENTRIES, shared) {
-        return Finding::Fails(13, Place::Nothing);
-    }
-    if highest < blocks::count(segment_count(sheet) as u32) {
-        return Finding::Fails(13, Place::Nothing);
-    }
-    if HIGHEST < u {
-        return Finding::Fails(14, Place::Nothing);
-    }
-    Finding::Passes
-}
-
-// A shared list after this answer to an opening; `figures` are the new river's start figures.
-fn pack_if(answer: Load, table: Table, figures: &[u32], list: &mut [u32])
-    requires { WhereLoaded (load_says answer) (λ n. (n + open_segments (table_in table) ≤ most_segments) × (n ≤ length figures.now) × (most_segments ≤ length list.old)) }
-    ensures { list.new ≡ list_after_open (load_says answer) (table_in table) figures.now list.old }
-{
-    if let Load::Loaded(v) = answer {
-        pack_with(table, v.segments as usize, figures, list);
-    }
-}
-
-// The highest figures after it: those of the new river's start figures.
-fn fill_if(answer: Load, figures: &[u32], highest: &mut [u32])
-    requires { WhereLoaded (load_says answer) (λ n. (n ≤ most_segments) × (n ≤ length figures.now) × (block_count n ≤ length highest.old)) }
-    ensures { highest.new ≡ highest_after_open (load_says answer) figures.now highest.old }
-{
-    if let Load::Loaded(v) = answer {
-        blocks::fill(v.segments as usize, figures, highest);
-    }
-}
-
-// The table after it.
-fn pack_table_if(answer: Load, table: &mut Table, river: u32, u: u32)
-    requires { WhereLoaded (load_says answer) (λ n. (1 ≤ river) × (table_fault (table_in table.old) ≡ false)) }
-    ensures { table_in table.new ≡ table_after_open (load_says answer) (table_in table.old) river u }
-{
-    if let Load::Loaded(v) = answer {
-        pack_table(table, river as usize - 1, v.segments, u);
-    }
-}
-
-// An opening: the sheet is loaded for flow `row` and the river started with U at step 0, which is `u`. Tests 1 to 12 with 16 and 19 among them, 17, 18, 13 and
-// 14. Of the list of reach records it is handed the length.
+// An opening: the sheet is loaded for flow `row` and the river started with U at step 0, which is `u`.
 pub fn open_lists(
     river: u32,
     sheet: &[u8],
     row: u32,
     records: usize,
-    e: &mut [u32],
-    g: &mut [u32],
-    l: &mut [u32],
-    a: &mut [u32],
-    b: &mut [u32],
-    k: &mut [u32],
-    ks: &mut [u32],
-    h: &mut [u32],
-    m: &mut [u32],
-    s: &mut [u32],
-    cl: &mut [u32],
-    cb: &mut [u32],
-    kd: &mut [u32],
-    start: &mut [u32],
-    channel: &mut [u32],
-    storage: &mut [u32],
-    sediment: &mut [u32],
+    columns: &mut ColumnsMut,
+    shared: &mut StateListsMut,
     highest: &mut [u32],
     table: &mut Table,
     u: u32,
-) -> Load
-    ensures answer { load_says result ≡ open_answer sheet.now row records (columns plain e.old g.old l.old a.old b.old k.old ks.old h.old m.old s.old cl.old cb.old kd.old start.old)
-        (pool plain channel.old storage.old sediment.old table.old) river highest.old u }
-    ensures lists { columns plain e.new g.new l.new a.new b.new k.new ks.new h.new m.new s.new cl.new cb.new kd.new start.new ≡ open_columns sheet.now row records (columns plain e.old g.old l.old a.old b.old k.old ks.old h.old m.old s.old cl.old cb.old kd.old start.old)
-        (pool plain channel.old storage.old sediment.old table.old) river highest.old u }
-    ensures pool { pool plain channel.new storage.new sediment.new table.new ≡ pool_open sheet.now row records (columns plain e.old g.old l.old a.old b.old k.old ks.old h.old m.old s.old cl.old cb.old kd.old start.old)
-        (pool plain channel.old storage.old sediment.old table.old) river highest.old u }
-    ensures highest { highest.new ≡ open_highest sheet.now row records (columns plain e.old g.old l.old a.old b.old k.old ks.old h.old m.old s.old cl.old cb.old kd.old start.old)
-        (pool plain channel.old storage.old sediment.old table.old) river highest.old u }
+) -> Result<Loaded, Refusal>
+    ensures answer { load_says result
+        ≡ open_answer sheet.now row records (columns_lent columns.old) (pool_lent shared.old table.old) river highest.old u }
+    ensures lists { columns_lent columns.new
+        ≡ open_columns sheet.now row records (columns_lent columns.old) (pool_lent shared.old table.old) river highest.old u }
+    ensures same_columns { SameColumns columns.old columns.new }
+    ensures pool { pool_lent shared.new table.new
+        ≡ pool_open sheet.now row records (columns_lent columns.old) (pool_lent shared.old table.old) river highest.old u }
+    ensures same_shared { SameState shared.old shared.new }
+    ensures highest { highest.new
+        ≡ open_highest sheet.now row records (columns_lent columns.old) (pool_lent shared.old table.old) river highest.old u }
 {
-    let listed = list_test(
-        room_test(river_test(sheet), sheet, &*table, river),
+    open_test(
+        river,
         sheet,
         row,
         records,
-        &[
-            e.len(),
-            g.len(),
-            l.len(),
-            a.len(),
-            b.len(),
-            k.len(),
-            ks.len(),
-            h.len(),
-            m.len(),
-            s.len(),
-            cl.len(),
-            cb.len(),
-            kd.len(),
-            start.len(),
-        ],
-    );
-    let found = last_test(
-        listed,
-        sheet,
-        &[channel.len(), storage.len(), sediment.len()],
-        highest.len(),
+        &*columns,
+        &*shared,
+        &highest[..],
+        *table,
         u,
-    );
-    let answer = Loaded::write(
-        found, sheet, row, e, g, l, a, b, k, ks, h, m, s, cl, cb, kd, start,
-    );
-    pack_if(answer, *table, &start[..], channel);
-    pack_if(answer, *table, &start[..], storage);
-    pack_if(answer, *table, &start[..], sediment);
-    fill_if(answer, &start[..], highest);
-    pack_table_if(answer, table, river, u);
-    answer
+    )?;
+    let loaded = Loaded::written(sheet, row, columns);
+    let n = loaded.segments as usize;
+    let start = &mut *columns.start;
+    pack_with(*table, n, &start[..], &mut shared.channel[..]);
+    pack_with(*table, n, &start[..], &mut shared.storage[..]);
+    pack_with(*table, n, &start[..], &mut shared.sediment[..]);
+    blocks::fill(n, &start[..], highest);
+    pack_table(table, river as usize - 1, loaded.segments, u);
+    Ok(loaded)
 }

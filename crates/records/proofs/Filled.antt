@@ -51,10 +51,6 @@ module _ (sheet : List ℕ) (before : List Record.Reach) where
   abbrev pub table : ℕ → List Record.Reach
   table i = over (tab 0 (min i (length before)) (λ j. as_record (reach_on sheet j))) before
 
-  -- at first as it was
-  pub table_none : table 0 ≡ before
-  table_none = rw (zero-min (length before))
-
   pub table-length : (i : ℕ) → length (table i) ≡ length before
   table-length i =
       length_over (tab 0 (min i (length before)) (λ j. as_record (reach_on sheet j))) before

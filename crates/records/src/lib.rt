@@ -7,31 +7,12 @@ ghost use Rattle.terms.specs.Says.{reach_says};
 ghost use Rattle.assembly.specs.Says.{load_says};
 ghost use Rattle.records.specs.Records.{no_reach, filled, fill_count};
 
-use assembly::Load;
+use assembly::Loaded;
 use sheet::fields::{reach, reach_count};
-use terms::Reach;
+use terms::{Reach, Refusal};
 
-// A record of zeros.
-pub const NO_REACH: Reach = Reach {
-    segments: 0,
-    dispersion: 0,
-    area: 0,
-    area2: 0,
-    alpha: 0,
-    qin: 0,
-    qout: 0,
-    cl: 0,
-    lambda: 0,
-    lambda2: 0,
-    lamhat: 0,
-    lamhat2: 0,
-    rho: 0,
-    kd: 0,
-    cb: 0,
-    start: 0,
-};
-
-// Puts a record at place i, which counts from 0. Past the end of the list nothing is written.
+// Puts a record at place i, which counts from 0. Past the end of the list nothing is written. No `get_mut`: the edit put-past-the-end writes
+// past the end, which that cannot.
 pub fn put(reaches: &mut [Reach], i: usize, value: Reach)
     ensures { reaches.new ≡ set reaches.old i value }
 {
@@ -44,37 +25,24 @@ pub fn put(reaches: &mut [Reach], i: usize, value: Reach)
 pub fn take(reaches: &[Reach], i: usize) -> Reach
     ensures { result ≡ get_or reaches.now i no_reach }
 {
-    if reaches.len() <= i {
-        NO_REACH
-    } else {
-        reaches[i]
-    }
+    reaches.get(i).copied().unwrap_or_default()
 }
 
 // Fills the first `count` entries from the sheet, as far as the list reaches; the others stay.
 pub fn fill(reaches: &mut [Reach], sheet: &[u8], count: usize)
     ensures { map reach_says reaches.new ≡ filled sheet.now count (map reach_says reaches.old) }
 {
-    let mut i: usize = 0;
-    while i < count {
+    for i in 0..count {
         put(reaches, i, reach(sheet, i));
-        i += 1;
     }
 }
 
-// All the reaches where the loading was accepted, and none where it was refused.
-fn count_if(answer: Load, reaches: usize) -> usize
-    ensures { result ≡ fill_count (load_says answer) reaches }
-{
-    match answer {
-        Load::Loaded(_) => reaches,
-        Load::Refused(_, _) => 0,
-    }
-}
-
-// How many entries a loading with this answer fills.
-pub fn fill_count(answer: Load, sheet: &[u8]) -> usize
+// How many entries a loading with this answer fills: one for each reach where it was accepted, and none where it was refused.
+pub fn fill_count(answer: Result<Loaded, Refusal>, sheet: &[u8]) -> usize
     ensures { result ≡ fill_count (load_says answer) (reach_count sheet.now) }
 {
-    count_if(answer, reach_count(sheet) as usize)
+    match answer {
+        Ok(_) => reach_count(sheet) as usize,
+        Err(_) => 0,
+    }
 }

@@ -1,10 +1,11 @@
 -- The listing step by step: what is put so far is that of the steps made, and the steps left are those up to M.
 use mathlib.Core.Path.{◌≡◌, refl, sym, ap, ◌∙◌}
-use mathlib.Core.Bool.{Bool, true, false, cond, true≢false}
-use mathlib.Core.List.{List, [], ◌∷◌, ◌++◌}
-use Prim.Native.Nat.{ℕ, zero, suc, ◌+◌, ◌-◌, ◌<◌, ◌≤◌}
+use mathlib.Core.Bool.{Bool, true, false, true≢false}
+use mathlib.Core.List.{List, []}
+use Prim.Native.Nat.{ℕ, zero, suc, ◌+◌, ◌<◌, ◌≤◌}
 use native.Mathlib.Omega.{arith}
 use lib.ListN.{length}
+use Rattle.std.specs.Borrow.{MutBor}
 use Rattle.model.specs.Ranges.{most_steps}
 use Rattle.model.specs.Sheet.{steps_m, segment_count}
 use Rattle.model.specs.Flow.{flow_in_force}
@@ -22,82 +23,59 @@ use Rattle.own_river.proofs.Parts.{long-new}
 use Rattle.own_river.proofs.Stepping.{SameLengths, step-lengths}
 use Rattle.output.specs.Text.{heading, done, refused}
 use Rattle.output.specs.Listing.{lines_at, lines_ahead, listing, printed_to, printed, text}
-use Rattle.output.specs.Outcomes.{longest, Flushed, PutLine, Puts, Lines, fresh}
+use Rattle.output.specs.Outcomes.{longest, Flushed, PutLine, Puts, Lines, Fresh}
 use Rattle.output.specs.declared.Output.{Output}
-use Rattle.output.proofs.Lines.{puts_one, puts-append, puts-failed, listed}
+use Rattle.output.proofs.Lines.{puts_one, none-failed, lines_one, lines-append, listed}
 use Rattle.output.proofs.Alike.{lines-alike}
 use Rattle.listing.specs.Shown.{Shown}
-use Rattle.river.specs.Printed.{Ran, PutSheet, Printed}
-
--- ---- lines
-
-lines_then : {xs ys : List (List ℕ)} {o m r : Output} {b c later : List ℕ} → Lines xs o b m c → Lines ys m c r later → Lines (xs ++ ys) o b r later
-lines_then x y = record { written = _; puts = puts-append x.puts y.puts }
-
-lines-one : {line : List ℕ} {o r : Output} {b later : List ℕ} → PutLine line o b r later → Lines (line ∷ []) o b r later
-lines-one p = record { written = _; puts = puts_one p }
-
--- where no write has failed in the end, none had before
-none-failed : {lines : List (List ℕ)} {o r : Output} {b later : List ℕ} → Lines lines o b r later → r.failed ≡ false → o.failed ≡ false
-none-failed {o = o} x e = go o.failed refl
-  where
-    go : (t : Bool) → o.failed ≡ t → o.failed ≡ false
-    go true q = absurd (true≢false (sym (puts-failed x.puts q) ∙ e))
-    go false q = q
+use Rattle.river.specs.Printed.{Ran, PutListing, PutSheet, Printed}
 
 -- ---- the run
 
--- from this state: k steps are made, their lines are put, and `left` are left unless a write has failed
-pub record Going (sheet : List ℕ) (n : ℕ) (begun : List ℕ) (from : State) (room : Working) (o : Output) (b : List ℕ) (sides : List ℕ) (state : State) (working : Working) (out : Output) (buffer : List ℕ) (left : ℕ) : Type 0 where
+-- from this state: `done` steps are done, k of them from here, and the lines of these are put
+pub record Going (sheet : List ℕ) (n : ℕ) (begun : List ℕ) (from : State) (room : Working) (o : Output) (sides : List ℕ) (state : State) (working : Working) (out : Output) (done : ℕ) : Type 0 where
   pub k : ℕ
+  pub counted : done ≡ from.steps + k
   pub is : state ≡ ahead (rows_upstream sheet) sheet from k
   pub ready : Ready sheet n sides state working
-  pub lines : Lines (lines_ahead (rows_upstream sheet) sheet from k) o b out buffer
-  pub few : from.steps + k + left ≤ steps_m sheet
-  pub all : out.failed ≡ false → from.steps + k + left ≡ steps_m sheet
+  pub lines : Lines (lines_ahead (rows_upstream sheet) sheet from k) o out
   pub sides_long : length sides ≡ length begun
   pub lengths : SameLengths from state room working
 
-pub going_start : {sheet : List ℕ} {n : ℕ} {from : State} {o : Output} {b : List ℕ} {sides : List ℕ} {working : Working} → Ready sheet n sides from working →
-    from.steps ≤ steps_m sheet → {left : ℕ} → left ≡ steps_m sheet - from.steps → Going sheet n sides from working o b sides from working o b left
+pub going_start : {sheet : List ℕ} {n : ℕ} {from : State} {o : Output} {sides : List ℕ} {working : Working} → Ready sheet n sides from working →
+    Going sheet n sides from working o sides from working o from.steps
 unfolding ahead lines_ahead
-going_start ready h e = record {
+going_start ready = record {
   k = 0;
+  counted = omega arith;
   is = refl;
   ready = ready;
   lines = record { written = []; puts = Puts.none };
-  few = omega arith;
-  all = λ q. omega arith;
   sides_long = refl;
   lengths = record { channel = refl; storage = refl; sediment = refl; p = refl; y = refl };
 }
 
-module _ {sheet : List ℕ} {n : ℕ} {begun : List ℕ} {from : State} {room : Working} {o : Output} {b sides : List ℕ} {state : State} {working : Working} {out : Output}
-    {buffer : List ℕ} {left : ℕ} (g : Going sheet n begun from room o b sides state working out buffer left) where
-  -- the count
-  counted : state.steps ≡ from.steps + g.k
-  counted = ap (λ (s : State). s.steps) g.is ∙ ahead-counts (rows_upstream sheet) sheet from g.k
+module _ {sheet : List ℕ} {n : ℕ} {begun : List ℕ} {from : State} {room : Working} {o : Output} {sides : List ℕ} {state : State} {working : Working} {out : Output} {steps : ℕ}
+    (g : Going sheet n begun from room o sides state working out steps) where
+  -- the state's own count
+  pub counts : state.steps ≡ steps
+  counts = ap (λ (s : State). s.steps) g.is ∙ ahead-counts (rows_upstream sheet) sheet from g.k ∙ sym g.counted
 
   -- fewer than M steps are done while some are left
-  below-M : 0 < left → state.steps < steps_m sheet
-  below-M h = omega (arith, counted, g.few)
-
-  pub below-most : 0 < left → state.steps < most_steps
-  below-most h = omega (arith, below-M h, most-steps sheet g.ready.of_sheet.passed)
+  pub below-most : steps < steps_m sheet → state.steps < most_steps
+  below-most h = omega (arith, counts, h, most-steps sheet g.ready.of_sheet.passed)
 
   -- one step more, and its lines
-  pub going-turn : {sides' : List ℕ} {state' : State} {working' : Working} {out' : Output} {buffer' : List ℕ} {left' : ℕ} {u' : ℕ} → 0 < left →
-      u' ≡ rows_upstream sheet (state.steps + 1) → Stepped sheet n sides state working u' sides' state' working' →
-      Lines (lines_at sheet state') out buffer out' buffer' → left' ≡ cond out'.failed 0 (left - 1) →
-      Going sheet n begun from room o b sides' state' working' out' buffer' left'
+  pub going-turn : {sides' : List ℕ} {state' : State} {working' : Working} {out' : Output} {u' : ℕ} →
+      u' ≡ rows_upstream sheet (steps + 1) → Stepped sheet n sides state working u' sides' state' working' →
+      Lines (lines_at sheet state') out out' → Going sheet n begun from room o sides' state' working' out' (steps + 1)
   unfolding lines_ahead
-  going-turn {state' = state'} {working' = working'} {out' = out'} {left' = left'} {u' = u'} h u step lines e = record {
+  going-turn {state' = state'} {working' = working'} {u' = u'} u step lines = record {
     k = suc g.k;
+    counted = omega (arith, g.counted);
     is = on;
     ready = step.ready;
-    lines = lines_then g.lines (rw on at lines);
-    few = most out'.failed e;
-    all = λ q. let l : left' ≡ left - 1 = e ∙ rw q in omega (arith, g.all (none-failed lines q));
+    lines = lines-append g.lines (rw on at lines);
     sides_long = step.sides_are.long ∙ g.sides_long;
     lengths = record {
       channel = same.channel ∙ g.lengths.channel;
@@ -113,38 +91,37 @@ module _ {sheet : List ℕ} {n : ℕ} {begun : List ℕ} {from : State} {room : 
 
       on : state' ≡ ahead (rows_upstream sheet) sheet from (suc g.k)
       on =
-          let one : state.steps + 1 ≡ suc state.steps = omega arith in
+          let one : steps + 1 ≡ suc state.steps = omega (arith, counts) in
           step.state_is ∙ ap (λ v. own_step sheet v state) (u ∙ ap (rows_upstream sheet) one)
           ∙ ap (λ (s : State). own_step sheet (rows_upstream sheet (suc s.steps)) s) g.is ∙ sym (ahead-last (rows_upstream sheet) sheet from g.k)
 
-      most : (t : Bool) → left' ≡ cond t 0 (left - 1) → from.steps + suc g.k + left' ≤ steps_m sheet
-      most true q = omega (arith, q, g.few)
-      most false q = omega (arith, q, g.few)
+-- no step is left, or a write has failed
+pub record Ending (sheet : List ℕ) (n : ℕ) (begun : List ℕ) (from : State) (room : Working) (o : Output) (sides : List ℕ) (state : State) (working : Working) (out : Output) : Type 0 where
+  pub steps : ℕ
+  pub going : Going sheet n begun from room o sides state working out steps
+  pub few : steps ≤ steps_m sheet
+  pub all : out.failed ≡ false → steps_m sheet ≤ steps
 
-  -- no step is left
-  pub going_end : {r : Output} {later : List ℕ} → left ≡ 0 → PutLine (done state.steps) out buffer r later →
-      Ran sheet n from o b sides state.channel state.storage state.sediment working r later
-  going_end e put =
-      let last = lines-one put in
-      record {
-        steps = g.k;
-        few = omega (arith, g.few);
-        lines = lines_then g.lines (rw counted at last);
-        all = λ q. omega (arith, g.all (none-failed last q));
-        ready = rw g.is at g.ready;
-        channel_is = ap (λ (s : State). s.channel) g.is;
-        storage_is = ap (λ (s : State). s.storage) g.is;
-        sediment_is = ap (λ (s : State). s.sediment) g.is;
-      }
-
--- fewer are left than before
-pub due-less : (failed : Bool) (left : ℕ) {left' : ℕ} → left' ≡ cond failed 0 (left - 1) → 0 < left → left' < left
-due-less true left e h = omega arith
-due-less false left e h = omega arith
+pub going_end : {sheet : List ℕ} {n : ℕ} {begun : List ℕ} {from : State} {room : Working} {o : Output} {sides : List ℕ} {state : State} {working : Working} {out r : Output} →
+    Ending sheet n begun from room o sides state working out → PutLine (done state.steps) out r →
+    Ran sheet n from sides state.channel state.storage state.sediment working o r
+going_end e put =
+    let g = e.going in
+    let last = lines_one put in
+    record {
+      steps = g.k;
+      few = omega (arith, e.few, g.counted);
+      lines = lines-append g.lines (rw (counts g ∙ g.counted) at last);
+      all = λ q. omega (arith, e.few, g.counted, e.all (none-failed last.puts q));
+      ready = rw g.is at g.ready;
+      channel_is = ap (λ (s : State). s.channel) g.is;
+      storage_is = ap (λ (s : State). s.storage) g.is;
+      sediment_is = ap (λ (s : State). s.sediment) g.is;
+    }
 
 -- what the lines of a step are read from
 pub shown : {sheet : List ℕ} {n : ℕ} {sides : List ℕ} {state : State} {working : Working} → Ready sheet n sides state working → (kd : List ℕ) → kd ≡ (sides_of sides).new.kd →
-    Shown sheet kd state.channel state.storage state.sediment
+    Shown sheet kd state
 unfolding segment_at
 shown {sheet} {n} {sides} {state} ready kd e =
     let count = ready.of_sheet.count in
@@ -167,27 +144,36 @@ ahead-lines sheet front u s t a (suc k) =
     rw (ahead-lines sheet front u s t a k, lines-alike sheet (λ j h. (gauge-first sheet front j h, gauge-last sheet front j h)) (ahead-alike u sheet s t (suc k) a))
 
 -- the heading, and the run from a state alike to the start's
-pub put_whole : {sheet : List ℕ} {n : ℕ} {buffer between later sides c z w : List ℕ} {working : Working} {out r : Output} (state : State) → first (river_tests sheet) ≡ passes → state.steps ≡ 0 →
-    Alike (segment_count sheet) state (own_start (rows_upstream sheet) sheet) → PutLine heading fresh buffer out between → Ran sheet n state out between sides c z w working r later →
-    PutSheet sheet buffer r later
+pub put_lines : {sheet : List ℕ} {n : ℕ} {sides c z w : List ℕ} {working : Working} {o out r : Output} (state : State) → first (river_tests sheet) ≡ passes → state.steps ≡ 0 →
+    Alike (segment_count sheet) state (own_start (rows_upstream sheet) sheet) → PutLine heading o out → Ran sheet n state sides c z w working out r →
+    PutListing sheet o r
 unfolding printed_to listing
-put_whole {sheet} state front none alike put ran =
+put_lines {sheet} state front none alike put ran =
     let ends : done (state.steps + ran.steps) ≡ done ran.steps = ap done (omega (arith, none)) in
     let same = ahead-lines sheet front (rows_upstream sheet) state (own_start (rows_upstream sheet) sheet) alike ran.steps in
     let lines = rw (same, ends) at ran.lines in
-    let whole = lines_then (lines-one put) lines in
     record {
       steps = ran.steps;
       few = omega (arith, ran.few);
-      lines = rw front (listed whole.puts);
+      lines = rw front (lines-append (lines_one put) lines);
       all = λ q. omega (arith, ran.all q);
     }
 
+-- from the start
+pub put-listing : {sheet : List ℕ} {buffer : MutBor (List ℕ)} {o r : Output} → Fresh buffer o → PutListing sheet o r → PutSheet sheet buffer r
+put-listing fresh put = record { steps = put.steps; few = put.few; lines = listed fresh put.lines.puts; all = put.all }
+
+-- so is the whole listing of an accepted sheet
+pub put_whole : {sheet : List ℕ} {n : ℕ} {buffer : MutBor (List ℕ)} {sides c z w : List ℕ} {working : Working} {o out r : Output} (state : State) → first (river_tests sheet) ≡ passes → state.steps ≡ 0 →
+    Alike (segment_count sheet) state (own_start (rows_upstream sheet) sheet) → Fresh buffer o → PutLine heading o out → Ran sheet n state sides c z w working out r →
+    PutSheet sheet buffer r
+put_whole state front none alike fresh put ran = put-listing fresh (put_lines state front none alike put ran)
+
 -- a refusal
-pub put-refused-sheet : {sheet buffer later : List ℕ} {r : Output} (number : ℕ) (place : Place) → first (river_tests sheet) ≡ fails number place → PutLine (refused number) fresh buffer r later →
-    PutSheet sheet buffer r later
+pub put-refused-sheet : {sheet : List ℕ} {buffer : MutBor (List ℕ)} {o r : Output} (number : ℕ) (place : Place) → first (river_tests sheet) ≡ fails number place →
+    Fresh buffer o → PutLine (refused number) o r → PutSheet sheet buffer r
 unfolding printed_to
-put-refused-sheet {sheet} number place front put = record { steps = steps_m sheet; few = omega arith; lines = rw front (listed (puts_one put)); all = λ q. refl }
+put-refused-sheet {sheet} number place front fresh put = record { steps = steps_m sheet; few = omega arith; lines = rw front (listed fresh (puts_one put)); all = λ q. refl }
 
 -- ---- the start
 
@@ -213,8 +199,8 @@ unfolding write_figures
 begun-steps begun = ap (λ (s : State). s.steps) begun.state_is
 
 -- the last write
-pub printed-whole : {sheet buffer later : List ℕ} {out r : Output} → longest ≤ length buffer → PutSheet sheet buffer out later → Flushed out later r →
-    Printed sheet buffer r later
+pub printed-whole : {sheet : List ℕ} {buffer : MutBor (List ℕ)} {out r : Output} → longest ≤ length buffer.now → PutSheet sheet buffer out → Flushed out r →
+    Printed sheet buffer r
 unfolding printed
 printed-whole {sheet} {out = out} {r = r} long put flushed = record {
   out = out;

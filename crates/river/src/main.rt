@@ -1,15 +1,14 @@
 // Program river: reads a river sheet on standard input and prints its listing, or `refused` and the number of the refusal.
 #![tactic(auto)]
 
-ghost use Rattle.std.specs.Prelude.{◌≡◌, cond, ◌≤◌, length};
-ghost use Rattle.lists.specs.Lent.{plain};
+ghost use Rattle.std.specs.Prelude.{◌≡◌, ◌≤◌, length};
 ghost use Rattle.model.specs.Refusals.{passes, first};
 ghost use Rattle.model.specs.Load.{river_tests};
 ghost use Rattle.model.specs.Sheet.{steps_m};
-ghost use Rattle.terms.specs.Lent.{state, working};
+ghost use Rattle.terms.specs.Lent.{state_lent, working_lent};
 ghost use Rattle.own_river.specs.Ready.{Ready};
 ghost use Rattle.output.specs.Outcomes.{longest};
-ghost use Rattle.river.specs.Printed.{Ran, PutSheet, Printed};
+ghost use Rattle.river.specs.Printed.{Ran, PutListing, PutSheet, Printed};
 
 use assembly::river_test;
 use listing::put_lines;
@@ -21,7 +20,7 @@ use reading::read_full;
 use sheet::LONGEST;
 use sheet::fields::{segment_count, steps};
 use std::io;
-use terms::Finding;
+use terms::{StateListsMut, WorkingMut};
 
 // One byte more than the longest sheet has shows that bytes follow its last section.
 const BYTES: usize = LONGEST + 1;
@@ -33,71 +32,38 @@ const ROOM: usize = River::SEGMENTS as usize + 16;
 // The bytes of the text that are gathered for one write.
 const GATHERED: usize = 65536;
 
-// The steps that are still due: none once a write has failed, since nothing more is printed.
-fn due(out: Output, left: u32) -> u32
-    ensures { result ≡ cond out.failed 0 left }
-{
-    if out.failed { 0 } else { left }
-}
-
 // The sheet's own river from this state up to M: the lines of each step, and then `done` with the steps made.
 fn run(
-    river: River,
+    mut river: River,
     sheet: &[u8],
     n: usize,
     sides: &mut [u32],
-    channel: &mut [u32],
-    storage: &mut [u32],
-    sediment: &mut [u32],
-    p: &mut [u64],
-    y: &mut [u64],
-    out: Output,
-    rt: &HostRuntime,
-    buffer: &mut [u8],
-) -> Output
-    requires { Ready sheet.now n sides.old (state plain channel.old storage.old sediment.old river.upstream river.steps) (working plain p.old y.old)
+    state: &mut StateListsMut,
+    working: &mut WorkingMut,
+    out: &mut Output,
+)
+    requires { Ready sheet.now n sides.old (state_lent state.old river.upstream river.steps) (working_lent working.old)
         × (river.steps ≤ steps_m sheet.now) }
-    ensures { Ran sheet.now n (state plain channel.old storage.old sediment.old river.upstream river.steps) out buffer.old
-        sides.new channel.new storage.new sediment.new (working plain p.new y.new) result buffer.new }
+    ensures { Ran sheet.now n (state_lent state.old river.upstream river.steps) sides.new
+        state.new.channel.now state.new.storage.now state.new.sediment.now (working_lent working.new) out.old out.new }
 {
-    let mut river = river;
-    let mut out = out;
     let most = steps(sheet);
-    let mut left = most - river.steps;
-    while left > 0 {
-        let u = upstream_at(sheet, river.steps + 1);
-        river = own_river::step(
-            river,
-            sheet,
-            n,
-            &mut sides[..],
-            &mut channel[..],
-            &mut storage[..],
-            &mut sediment[..],
-            &mut p[..],
-            &mut y[..],
-            u,
-        );
-        out = put_lines(
-            river,
-            sheet,
-            kd(&sides[..]),
-            &channel[..],
-            &storage[..],
-            &sediment[..],
-            out,
-            rt,
-            &mut buffer[..],
-        );
-        left = due(out, left - 1);
+    for done in river.steps..most {
+        let u = upstream_at(sheet, done + 1);
+        river = own_river::step(river, sheet, n, sides, state, working, u);
+        put_lines(river, sheet, kd(sides), state.read(), out);
+        // Nothing more is printed once a write has failed.
+        if out.failed {
+            break;
+        }
     }
-    out.put_done(rt, &mut buffer[..], river.steps)
+    out.put_done(river.steps);
 }
 
 // The listing of an accepted sheet: its river is started and run.
-fn put_listing(rt: &HostRuntime, sheet: &[u8], buffer: &mut [u8]) -> Output
+fn put_listing(sheet: &[u8], out: &mut Output)
     requires { first (river_tests sheet.now) ≡ passes }
-    ensures { PutSheet sheet.now buffer.old result buffer.new }
+    ensures { PutListing sheet.now out.old out.new }
 {
     let n = segment_count(sheet);
     let mut sides = [0u32; PARTS * ROOM];
@@ -106,50 +72,41 @@ fn put_listing(rt: &HostRuntime, sheet: &[u8], buffer: &mut [u8]) -> Output
     let mut sediment = [0u32; ROOM];
     let mut p = [0u64; ROOM];
     let mut y = [0u64; ROOM];
-    let river = own_river::start(
-        sheet,
-        n,
-        &mut sides,
-        &mut channel,
-        &mut storage,
-        &mut sediment,
-        upstream_at(sheet, 0),
-    );
-    let out = Output::new().put_heading(rt, &mut buffer[..]);
-    run(
-        river,
-        sheet,
-        n,
-        &mut sides,
-        &mut channel,
-        &mut storage,
-        &mut sediment,
-        &mut p,
-        &mut y,
-        out,
-        rt,
-        &mut buffer[..],
-    )
+    let mut state = StateListsMut {
+        channel: &mut channel,
+        storage: &mut storage,
+        sediment: &mut sediment,
+    };
+    let mut working = WorkingMut {
+        p: &mut p,
+        y: &mut y,
+    };
+    let u = upstream_at(sheet, 0);
+    let river = own_river::start(sheet, n, &mut sides, &mut state, u);
+    out.put_heading();
+    run(river, sheet, n, &mut sides, &mut state, &mut working, out);
 }
 
 // What is put of these bytes: "A refused sheet prints only `refused` and its number."
-fn put_sheet(rt: &HostRuntime, sheet: &[u8], buffer: &mut [u8]) -> Output
-    ensures { PutSheet sheet.now buffer.old result buffer.new }
+fn put_sheet<'r, 'b>(rt: &'r HostRuntime, sheet: &[u8], buffer: &'b mut [u8]) -> Output<'r, 'b>
+    ensures { PutSheet sheet.now buffer.entry result }
 {
-    let found = river_test(sheet);
-    match found {
-        Finding::Passes => put_listing(rt, sheet, &mut buffer[..]),
-        Finding::Fails(number, _) => Output::new().put_refused(rt, &mut buffer[..], number),
+    let mut out = Output::new(rt, buffer);
+    match river_test(sheet) {
+        Ok(()) => put_listing(sheet, &mut out),
+        Err(refusal) => out.put_refused(refusal.fault.number()),
     }
+    out
 }
 
 // And printed, with the last write made.
-fn print(rt: &HostRuntime, sheet: &[u8], buffer: &mut [u8]) -> Output
+fn print<'r, 'b>(rt: &'r HostRuntime, sheet: &[u8], buffer: &'b mut [u8]) -> Output<'r, 'b>
     requires { longest ≤ length buffer.old }
-    ensures { Printed sheet.now buffer.old result buffer.new }
+    ensures { Printed sheet.now buffer.entry result }
 {
-    let out = put_sheet(rt, sheet, &mut buffer[..]);
-    out.flush(rt, &buffer[..])
+    let mut out = put_sheet(rt, sheet, buffer);
+    out.flush();
+    out
 }
 
 fn main(rt: HostRuntime) -> io::Result<()> {

@@ -1,7 +1,7 @@
 // Rounding as document 01 rounds: to the nearest with a half going up, a fraction in parts of one whole, and down.
 #![tactic(auto)]
 
-ghost use Rattle.std.specs.Prelude.{◌≡◌, ◌+◌, ◌*◌, ◌^◌, ◌<◌, ◌≤◌, min};
+ghost use Rattle.std.specs.Prelude.{◌≡◌, ◌+◌, ◌*◌, ◌^◌, ◌<◌, ◌≤◌, min, IfSome, IfNone};
 ghost use Rattle.rounding.specs.Nearest.{S, nearest, parts};
 
 pub mod signed;
@@ -19,44 +19,11 @@ const ABOVE: u32 = (WHOLE + 1) as u32;
 pub fn product(x: u32, y: u32) -> u64
     ensures { result ≡ x * y }
 {
-    (x as u64) * (y as u64)
-}
-
-// A quotient with its remainder.
-#[derive(Clone, Copy)]
-struct Split {
-    quotient: u64,
-    rest: u64,
-}
-
-// The quotient and the remainder of twice the dividend. `r < d - r` is `2 * r < d` without a product that might not fit.
-fn doubled(q: u64, r: u64, d: u64) -> Split
-    requires { (r < d) × (q < 2 ^ 32) }
-    ensures { (result.quotient * d + result.rest ≡ 2 * (q * d + r)) × (result.rest < d) × (result.quotient ≤ 2 * q + 1) }
-{
-    if r < d - r {
-        Split {
-            quotient: 2 * q,
-            rest: r + r,
-        }
-    } else {
-        Split {
-            quotient: 2 * q + 1,
-            rest: r - (d - r),
-        }
-    }
-}
-
-// The quotient to the nearest, from the whole quotient and its remainder. A half goes up here, and in the two functions below that find a
-// quotient without dividing.
-fn rounded(q: u64, r: u64, d: u64) -> u64
-    requires { (r < d) × (0 < r → q + 1 < 2 ^ 64) }
-    ensures { result ≡ nearest (q * d + r) d }
-{
-    if r < d - r { q } else { q + 1 }
+    u64::from(x) * u64::from(y)
 }
 
 // n by one whole, to the nearest: one more than the halves of a whole in n, halved. That is two shifts.
+#[tactic(auto, unfolding(crate::specs::Nearest::nearest))]
 fn nearest_whole(n: u64) -> u64
     ensures { result ≡ nearest n S }
 {
@@ -64,18 +31,21 @@ fn nearest_whole(n: u64) -> u64
 }
 
 // n / d to the nearest. It divides where d is not one whole.
+// A divisor above 0 is a clause and no `NonZeroU64`, here and below: callers have a plain product, and it would be made for the call, no plainer.
 pub fn nearest(n: u64, d: u64) -> u64
     requires { 0 < d }
     ensures { result ≡ nearest n d }
 {
     if d == WHOLE {
-        return nearest_whole(n);
+        nearest_whole(n)
+    } else {
+        Split::new(n, d).rounded()
     }
-    rounded(n / d, n % d, d)
 }
 
 // The same, where the quotient may be known. The candidate is trusted for nothing: its product with d is held to n, and n is divided where
 // that fails.
+#[tactic(auto, unfolding(crate::specs::Nearest::nearest))]
 pub fn nearest_tried(n: u64, d: u64, candidate: u64) -> u64
     requires { (0 < d) × (d ≤ 2 * S) × (n ≤ 2 * (S * S)) }
     ensures { result ≡ nearest n d }
@@ -83,20 +53,107 @@ pub fn nearest_tried(n: u64, d: u64, candidate: u64) -> u64
     if candidate <= WHOLE {
         let product = candidate * d;
         let up = n + d / 2;
-        if product <= up {
-            if up - product < d {
-                return candidate;
-            }
+        if product <= up && up - product < d {
+            return candidate;
         }
     }
     nearest(n, d)
 }
 
-// x parts, or one part above one whole where they are more than one whole.
-fn capped(x: u64) -> u32
-    ensures { result ≡ min x (S + 1) }
-{
-    if x <= WHOLE { x as u32 } else { ABOVE }
+// The whole quotient of a division, and the rest that it leaves.
+#[derive(Clone, Copy)]
+struct Split {
+    quotient: u64,
+    rest: u64,
+    divisor: u64,
+    ghost rest_is_less: { rest < divisor },
+}
+
+impl Split {
+    fn new(n: u64, d: u64) -> Split
+        requires { 0 < d }
+        ensures { (result.quotient * d + result.rest ≡ n) × (result.divisor ≡ d) × (result.quotient ≤ n) }
+    {
+        Split {
+            quotient: n / d,
+            rest: n % d,
+            divisor: d,
+        }
+    }
+
+    // The same without a division, for a fraction below two; no other has one.
+    fn below_two(n: u64, d: u64) -> Option<Split>
+        ensures some { IfSome result (λ s. (s.quotient * d + s.rest ≡ n) × (s.divisor ≡ d) × (s.quotient ≤ 1)) }
+        ensures none { IfNone result (2 * d ≤ n) }
+    {
+        if n < d {
+            Some(Split {
+                quotient: 0,
+                rest: n,
+                divisor: d,
+            })
+        } else if n - d < d {
+            Some(Split {
+                quotient: 1,
+                rest: n - d,
+                divisor: d,
+            })
+        } else {
+            None
+        }
+    }
+
+    // That of twice the dividend. `rest < divisor - rest` is `2 * rest < divisor` without a product that might not fit.
+    fn doubled(self) -> Split
+        requires { self.quotient < 2 ^ 32 }
+        ensures { (result.quotient * self.divisor + result.rest ≡ 2 * (self.quotient * self.divisor + self.rest)) × (result.divisor ≡ self.divisor)
+            × (result.quotient ≤ 2 * self.quotient + 1) }
+    {
+        let short = self.divisor - self.rest;
+        if self.rest < short {
+            Split {
+                quotient: 2 * self.quotient,
+                rest: self.rest + self.rest,
+                divisor: self.divisor,
+            }
+        } else {
+            Split {
+                quotient: 2 * self.quotient + 1,
+                rest: self.rest - short,
+                divisor: self.divisor,
+            }
+        }
+    }
+
+    // That of the dividend times a base: one digit more. Twice a rest may leave 64 bits, so base 2 is apart.
+    fn times(self, base: u64) -> Split
+        requires { (base * (self.quotient + 1) ≤ 2 ^ 31) × (2 ≤ base) × (2 < base → self.divisor * base ≤ 2 ^ 64) }
+        ensures { (result.quotient * self.divisor + result.rest ≡ base * (self.quotient * self.divisor + self.rest)) × (result.divisor ≡ self.divisor)
+            × (result.quotient < base * (self.quotient + 1)) }
+    {
+        if base == 2 {
+            return self.doubled();
+        }
+        let product = self.rest * base;
+        Split {
+            quotient: self.quotient * base + product / self.divisor,
+            rest: product % self.divisor,
+            divisor: self.divisor,
+        }
+    }
+
+    // The quotient to the nearest. A half goes up here, and in the two functions above that find a quotient without dividing.
+    #[tactic(auto, unfolding(crate::specs::Nearest::nearest))]
+    fn rounded(self) -> u64
+        requires { 0 < self.rest → self.quotient + 1 < 2 ^ 64 }
+        ensures { result ≡ nearest (self.quotient * self.divisor + self.rest) self.divisor }
+    {
+        if self.rest < self.divisor - self.rest {
+            self.quotient
+        } else {
+            self.quotient + 1
+        }
+    }
 }
 
 // In which base the thirty bits of a fraction are taken, and how many digits they are in it: one whole is the base to that power.
@@ -113,60 +170,25 @@ impl Radix {
         ensures { (result.base ^ result.digits ≡ S) × (2 ≤ result.base) × (2 < result.base → d * result.base ≤ 2 ^ 64) × (d ≤ 2 ^ 54 → result.digits ≤ 3) }
     {
         if d <= 1 << 34 {
-            return Radix {
+            Radix {
                 base: 1 << 30,
                 digits: 1,
-            };
-        }
-        if d <= 1 << 49 {
-            return Radix {
+            }
+        } else if d <= 1 << 49 {
+            Radix {
                 base: 1 << 15,
                 digits: 2,
-            };
-        }
-        if d <= 1 << 54 {
-            return Radix {
+            }
+        } else if d <= 1 << 54 {
+            Radix {
                 base: 1 << 10,
                 digits: 3,
-            };
-        }
-        Radix {
-            base: 2,
-            digits: 30,
-        }
-    }
-}
-
-// The quotient and the remainder of the dividend times a base: one digit more. Twice a remainder may leave 64 bits, so base 2 is apart.
-fn multiplied(q: u64, r: u64, d: u64, base: u64) -> Split
-    requires { (r < d) × (base * (q + 1) ≤ 2 ^ 31) × (2 ≤ base) × (2 < base → d * base ≤ 2 ^ 64) }
-    ensures { (result.quotient * d + result.rest ≡ base * (q * d + r)) × (result.rest < d) × (result.quotient < base * (q + 1)) }
-{
-    if base == 2 {
-        return doubled(q, r, d);
-    }
-    let product = r * base;
-    let quotient = q * base + product / d;
-    Split {
-        quotient: quotient,
-        rest: product % d,
-    }
-}
-
-// n less d once, where d goes into it: the quotient and the remainder of a fraction below two, without a division. Only from two on the
-// remainder is not below d.
-fn first_bit(n: u64, d: u64) -> Split
-    ensures { (result.quotient * d + result.rest ≡ n) × (result.quotient ≤ 1) × (d ≤ result.rest → 2 * d ≤ n) }
-{
-    if n < d {
-        Split {
-            quotient: 0,
-            rest: n,
-        }
-    } else {
-        Split {
-            quotient: 1,
-            rest: n - d,
+            }
+        } else {
+            Radix {
+                base: 2,
+                digits: 30,
+            }
         }
     }
 }
@@ -176,19 +198,12 @@ pub fn parts(n: u64, d: u64) -> u32
     requires { 0 < d }
     ensures { result ≡ min (parts n d) (S + 1) }
 {
-    let first = first_bit(n, d);
-    let mut q = first.quotient;
-    let mut r = first.rest;
-    if d <= r {
+    let Some(mut split) = Split::below_two(n, d) else {
         return ABOVE;
-    }
+    };
     let radix = Radix::new(d);
-    let mut i: u32 = 0;
-    while i < radix.digits {
-        let s = multiplied(q, r, d, radix.base);
-        q = s.quotient;
-        r = s.rest;
-        i += 1;
+    for _ in 0..radix.digits {
+        split = split.times(radix.base);
     }
-    capped(rounded(q, r, d))
+    split.rounded().min(u64::from(ABOVE)) as u32
 }

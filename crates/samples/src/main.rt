@@ -24,19 +24,12 @@ fn next(x: u64) -> u64 {
     b ^ (b << 17)
 }
 
-fn power_of_two(k: u32) -> u64
-    requires { k < 64 }
-    ensures { result ≡ 2 ^ k }
-{
-    1 << k
-}
-
 // A number of k + 1 bits.
 fn sized(k: u32, x: u64) -> u64
     requires { k < 64 }
     ensures { (2 ^ k ≤ result) × (result < 2 ^ (k + 1)) }
 {
-    let least = power_of_two(k);
+    let least = 2u64.pow(k);
     least + x % least
 }
 
@@ -45,7 +38,7 @@ fn about_a_power(k: u32, x: u64) -> u64
     requires { k < 63 }
     ensures { 0 < result }
 {
-    power_of_two(k + 1) - 1 + x % 3
+    2u64.pow(k + 1) - 1 + x % 3
 }
 
 // 4 × A × dx².
@@ -75,37 +68,51 @@ fn above_the_middle(k: u32, x: u64) -> u64
     ensures { 2 ^ 63 < result }
 {
     if k % 50 == 0 {
-        return u64::MAX;
+        u64::MAX
+    } else {
+        (1 << 63) + 1 + x % ((1 << 63) - 1)
     }
-    (1 << 63) + 1 + x % ((1 << 63) - 1)
 }
 
-// Five kinds: of every size; about every power of two; with exact halves; of the sheet; above 2^63, the last one too.
-fn denominator(kind: u32, k: u32, x: u64) -> u64
-    ensures { 0 < result }
-{
-    match kind {
-        0 => sized(k % 64, x),
-        1 => about_a_power(k % 63, x),
-        2 => HALF_PARTS * sized(k % 33, x),
-        3 => of_the_sheet(k, x),
-        _ => above_the_middle(k, x),
+// The kinds of denominators, which take turns.
+#[derive(Clone, Copy)]
+enum Denominators {
+    OfEverySize,
+    AboutEveryPowerOfTwo,
+    WithExactHalves,
+    OfTheSheet,
+    AboveTheMiddle,
+}
+
+impl Denominators {
+    const ALL: [Denominators; 5] = [
+        Denominators::OfEverySize,
+        Denominators::AboutEveryPowerOfTwo,
+        Denominators::WithExactHalves,
+        Denominators::OfTheSheet,
+        Denominators::AboveTheMiddle,
+    ];
+
+    fn draw(self, k: u32, x: u64) -> u64
+        ensures { 0 < result }
+    {
+        match self {
+            Denominators::OfEverySize => sized(k % 64, x),
+            Denominators::AboutEveryPowerOfTwo => about_a_power(k % 63, x),
+            Denominators::WithExactHalves => HALF_PARTS * sized(k % 33, x),
+            Denominators::OfTheSheet => of_the_sheet(k, x),
+            Denominators::AboveTheMiddle => above_the_middle(k, x),
+        }
     }
 }
 
 // n, or what stands beside it.
 fn beside(n: u64, x: u64) -> u64 {
-    if x % 3 == 0 {
-        if 0 < n {
-            return n - 1;
-        }
+    match x % 3 {
+        0 => n.saturating_sub(1),
+        1 => n.saturating_add(1),
+        _ => n,
     }
-    if x % 3 == 1 {
-        if n < u64::MAX {
-            return n + 1;
-        }
-    }
-    n
 }
 
 // The product of a number of 31 bits and one of 33, which fits.
@@ -123,53 +130,57 @@ fn at_a_half(d: u64, x: u64) -> u64 {
     product(odd, d / HALF_PARTS) + product(odd, d % HALF_PARTS) / HALF_PARTS
 }
 
-// Four kinds: of every size, with 0 and the last number; below the denominator; at a half; at one whole and a half part, above which the
-// figure stands for more (of the last denominators the sum wraps, and is some other numerator).
-fn numerator(kind: u32, k: u32, d: u64, x: u64) -> u64
-    requires { 0 < d }
-{
-    match kind {
-        0 => {
-            if k % 66 == 0 {
-                return 0;
-            }
-            if k % 66 == 65 {
-                return u64::MAX;
-            }
-            sized(k % 66 - 1, x)
+// The kinds of numerators, which take turns with each kind of denominators. Those of every size have 0 and the last number among them. Above one
+// whole and a half part the figure stands for more; of the last denominators that sum wraps, and is some other numerator.
+#[derive(Clone, Copy)]
+enum Numerators {
+    OfEverySize,
+    BelowTheDenominator,
+    AtAHalf,
+    AtOneWholeAndAHalfPart,
+}
+
+impl Numerators {
+    const ALL: [Numerators; 4] = [
+        Numerators::OfEverySize,
+        Numerators::BelowTheDenominator,
+        Numerators::AtAHalf,
+        Numerators::AtOneWholeAndAHalfPart,
+    ];
+
+    fn draw(self, k: u32, d: u64, x: u64) -> u64
+        requires { 0 < d }
+    {
+        match self {
+            Numerators::OfEverySize => match k % 66 {
+                0 => 0,
+                65 => u64::MAX,
+                size => sized(size - 1, x),
+            },
+            Numerators::BelowTheDenominator => x % d,
+            Numerators::AtAHalf => beside(at_a_half(d, x / 3), x),
+            Numerators::AtOneWholeAndAHalfPart => beside(d.wrapping_add(d / HALF_PARTS), x),
         }
-        1 => x % d,
-        2 => beside(at_a_half(d, x / 3), x),
-        _ => beside(d.wrapping_add(d / HALF_PARTS), x),
     }
-}
-
-// One figure more. A single figure that differs leads to another digest.
-fn digested(digest: u64, figure: u64) -> u64 {
-    next(digest.wrapping_add(figure))
-}
-
-// How many fractions came before, the fraction, its figure, and the digest.
-fn line(rt: &impl Print, before: u32, n: u64, d: u64, figure: u32, digest: u64) -> io::Result<()> {
-    println!(rt; "{before} {n} {d} {figure} {digest:016x}")
 }
 
 fn main(rt: HostRuntime) -> io::Result<()> {
     let mut drawn = SEED;
     let mut digest = SEED;
-    let mut i: u32 = 0;
-    while i < COUNT {
+    for i in 0..COUNT {
         let round = i / 20;
         drawn = next(drawn);
-        let d = denominator(i % 5, round, drawn);
+        let d = Denominators::ALL[i as usize % 5].draw(round, drawn);
         drawn = next(drawn);
-        let n = numerator(i / 5 % 4, round / 64, d, drawn);
+        let n = Numerators::ALL[i as usize / 5 % 4].draw(round / 64, d, drawn);
         let figure = rounding::parts(n, d);
-        digest = digested(digested(digested(digest, n), d), figure as u64);
-        if i % EVERY == 0 {
-            line(&rt, i, n, d, figure, digest)?;
+        // a single figure that differs leads to another digest
+        for number in [n, d, u64::from(figure)] {
+            digest = next(digest.wrapping_add(number));
         }
-        i += 1;
+        if i % EVERY == 0 {
+            println!(rt; "{i} {n} {d} {figure} {digest:016x}")?;
+        }
     }
     println!(rt; "{COUNT} fractions, digest {digest:016x}")
 }

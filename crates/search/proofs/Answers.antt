@@ -1,89 +1,92 @@
--- An answer of the search, from what 13 found and what the loops found.
-use mathlib.Core.Path.{◌≡◌, refl, sym, ◌∙◌}
-use mathlib.Core.Bool.{Bool, true, false, ◌||◌}
-use mathlib.Core.List.{List, [], ◌∷◌}
-use mathlib.Core.Option.{Option, none, some}
-use Prim.Native.Nat.{ℕ, ◌+◌, ◌-◌, ◌<◌, ◌≤◌}
-use native.Mathlib.Omega.{arith}
-use borrow.Author.Tests.{lt-ltb, ltb-false}
+-- An answer of the search, by its tests.
+use Rattle.std.proofs.Common.{◌≡◌, ℕ, ◌-◌, ◌≤◌, List, [], ◌∷◌, length, take}
+use Rattle.std.proofs.Common.{drop, false, ◌||◌, refl, sym, ◌∙◌, Option, Ok, Err, arith}
+use mathlib.Core.Bool.{or-false}
+use borrow.Author.Tests.{ltb-false}
 use lib.Dec.{ltb}
-use lib.ListN.{length, take, drop}
 use Rattle.lists.specs.Lists.{any_shorter}
-use Rattle.lists.proofs.Shorter.{neither, none-shorter}
-use Rattle.model.specs.Ranges.{◌to◌, outside, most_segments, most_rivers}
-use Rattle.model.specs.Refusals.{nothing, Outcome, refused}
-use Rattle.model.specs.Highest.{block_count, blocks_fault}
+use Rattle.lists.proofs.Shorter.{neither, all-long}
+use Rattle.std.proofs.Math.Option as Document
+use Rattle.model.specs.Ranges.{◌to◌, outside, most_segments}
+use Rattle.model.specs.Refusals.{Place, Outcome, Finding, passes, fails, test, first}
 use Rattle.model.specs.Calls.{river_fault}
-use Rattle.model.specs.Search.{search_tests, SearchAnswer}
-use Rattle.model.specs.Pool.{Slot, slot_of, number_fault, shared_fault, pool_tests, pool_search_tests, PoolSearchAnswer}
-use Rattle.model.proofs.Refusals.{fails-passes}
+use Rattle.model.specs.Highest.{block_count, blocks_fault}
+use Rattle.model.specs.Search.{search_tests, Finds, Searches, SearchAnswer}
+use Rattle.model.specs.Pool.{Slot, slot_of, end_of, number_fault, shared_fault, pool_tests, pool_search_tests, PoolSearchAnswer}
 use Rattle.model.proofs.Ranges.{inside}
 use Rattle.pool_laws.proofs.Tables.{fault-apart, number-clear}
-use Rattle.search.specs.declared.Search.{Search}
-use Rattle.search.specs.declared.Search.TheVariants as Search
-use Rattle.search.specs.Says.{search_says, FindsSays}
+use Rattle.model.proofs.Refusals.{fails-passes, outcome-passes, outcome-fails, test-clear}
+use Rattle.terms.specs.declared.Refusal.{Refusal}
+use Rattle.terms.specs.Says.{finding_says}
+use Rattle.search.specs.Says.{found_says, search_says}
 
-either : (range channel highest : Bool) → (range || (channel || highest)) ≡ (range || (channel || false) || highest)
-either true channel highest = refl
-either false true highest = refl
-either false false highest = refl
+module _ (tests : List Finding) (n : ℕ) (channel highest : List ℕ) (limit : ℕ) where
+  -- a refusal is that of the first test that fails
+  pub searches-refused : (r : Refusal) → first tests ≡ finding_says {A = Option ℕ} (Err r) →
+      Searches tests n channel highest limit (search_says (Err r))
+  searches-refused r e = record {
+    found = Document.none;
+    finds = λ q. fails-passes (sym e ∙ q);
+    is = sym (outcome-fails tests Document.none e);
+  }
 
-module _ (n : ℕ) (channel highest : List ℕ) (limit : ℕ) (fault : Bool)
-    (is : fault ≡ (outside (1 to most_segments) n || (ltb (length channel) n || ltb (length highest) (block_count n)))) where
-  -- it is what 13 finds
-  thirteen : fault ≡ (river_fault n (channel ∷ []) || blocks_fault n highest)
-  unfolding river_fault blocks_fault any_shorter
-  thirteen = is ∙ either (outside (1 to most_segments) n) (ltb (length channel) n) (ltb (length highest) (block_count n))
+  -- what is found where all pass
+  pub searches-found : (found : Option ℕ) → first tests ≡ passes → Finds n channel highest limit (found_says found) →
+      Searches tests n channel highest limit (search_says (Ok found))
+  searches-found found e h = record { found = found_says found; finds = λ q. h; is = sym (outcome-passes tests (found_says found) e) }
 
-  -- 13 passes, and what the loops may read is there
-  pub lists-long : fault ≡ false → (n ≤ most_segments) × (n ≤ length channel) × (block_count n ≤ length highest)
-  lists-long e =
-      let both = neither (outside (1 to most_segments) n) _ (sym is ∙ e) in
-      let lists = neither (ltb (length channel) n) _ both.1 in
-      ((inside (1 to most_segments) n both.0).1, ltb-false _ _ lists.0, ltb-false _ _ lists.1)
+-- ---- its tests
 
-  pub refused-13 : fault ≡ true → SearchAnswer n channel highest limit (refused 13 nothing)
-  unfolding search_tests
-  refused-13 e = record { found = none; finds = rw (sym thirteen ∙ e) (λ q. fails-passes q); is = rw (sym thirteen ∙ e) }
+-- one test alone
+first-alone : (t : Finding) → first (t ∷ []) ≡ t
+first-alone passes = refl
+first-alone (fails number place) = refl
 
-  pub found-by : fault ≡ false → (r : Search) → FindsSays n channel highest limit r → SearchAnswer n channel highest limit (search_says r)
-  unfolding search_tests
-  found-by e (Search.Found number) h = record { found = some number; finds = λ q. h; is = rw (sym thirteen ∙ e) }
-  found-by e Search.Nothing h = record { found = none; finds = λ q. h; is = rw (sym thirteen ∙ e) }
-  found-by e (Search.Refused number place) h = absurd h
+-- 13 of a river whose lists are its own
+pub alone-tests : (n : ℕ) (channel highest : List ℕ) →
+    first (search_tests n channel highest) ≡ test 13 (river_fault n (channel ∷ []) || blocks_fault n highest)
+unfolding search_tests
+alone-tests n channel highest = first-alone _
+
+-- where it passes, the lists are there to be read
+pub lists-long : (n : ℕ) (channel highest : List ℕ) → (river_fault n (channel ∷ []) || blocks_fault n highest) ≡ false →
+    (n ≤ most_segments) × (n ≤ length channel) × (block_count n ≤ length highest)
+unfolding river_fault blocks_fault
+lists-long n channel highest e =
+    let both = neither _ _ e in
+    let river = neither (outside (1 to most_segments) n) (any_shorter n (channel ∷ [])) both.0 in
+    ((inside (1 to most_segments) n river.0).1, (all-long n (channel ∷ []) river.1).0, ltb-false _ _ both.1)
 
 -- ---- on a pool
 
--- where an open river stands in the channel list
-pub record Stands (table : List Slot) (channel : List ℕ) (number : ℕ) (x : Slot) : Type 0 where
-  pub from : 1 ≤ number
-  pub ends : x.first + x.segments ≤ length channel
-
-module _ (table : List Slot) (channel : List ℕ) (number : ℕ) (highest : List ℕ) (limit : ℕ) where
-  pub refused-18 : number_fault table number ≡ true → PoolSearchAnswer table channel number highest limit (refused 18 nothing)
+module _ (table : List Slot) (channel : List ℕ) (number : ℕ) (highest : List ℕ) where
+  pub slot-refused : {refusal : ℕ} {place : Place} → fails refusal place ≡ test 18 (number_fault table number) →
+      first (pool_search_tests table channel number highest) ≡ fails refusal place
   unfolding pool_search_tests pool_tests
-  refused-18 e = record { found = none; finds = rw e (λ q. fails-passes q); is = rw e }
+  slot-refused e = rw (sym e)
 
-  module _ (clear : number_fault table number ≡ false) where
-    pub refused-shared : length channel < most_segments → PoolSearchAnswer table channel number highest limit (refused 13 nothing)
+  module _ (clear : passes ≡ test 18 (number_fault table number)) where
+    pub shared-refused : {refusal : ℕ} {place : Place} → fails refusal place ≡ test 13 (ltb (length channel) most_segments) →
+        first (pool_search_tests table channel number highest) ≡ fails refusal place
     unfolding pool_search_tests pool_tests shared_fault any_shorter
-    refused-shared h =
-        let e = lt-ltb (length channel) most_segments h in record { found = none; finds = rw (clear, e) (λ q. fails-passes q); is = rw (clear, e) }
+    shared-refused e = rw (sym clear, or-false (ltb (length channel) most_segments), sym e)
 
-    module _ (long : most_segments ≤ length channel) (x : Slot) (is : x ≡ slot_of table number) where
-      pub stands : Stands table channel number x
+    module _ (long : passes ≡ test 13 (ltb (length channel) most_segments)) (x : Slot) (is : x ≡ slot_of table number)
+        (from end : ℕ) (stretch : (from ≡ x.first) × (end ≡ end_of x)) where
+      -- where the river stands
+      pub stands : end ≤ length channel
       stands =
-          let n = number-clear table number clear in
-          let place : number - 1 < most_rivers = omega (arith, n.0, n.1) in
-          let ends : x.first + x.segments ≤ most_segments = rw is ((fault-apart table n.3).ends (number - 1) place n.2) in
-          record { from = n.0; ends = omega (arith, ends, long) }
+          let n = number-clear table number (test-clear 18 _ (sym clear)) in
+          let within : end_of x ≤ most_segments = rw is ((fault-apart table n.3).ends (number - 1) (omega (arith, n.0, n.1)) n.2) in
+          omega (arith, stretch.1, ltb-false _ _ (test-clear 13 _ (sym long)))
 
       -- the tests of the stretch alone decide
-      pub on-stretch : (a : Outcome (Option ℕ)) → SearchAnswer x.segments (take (x.first + x.segments - x.first) (drop x.first channel)) highest limit a →
-          PoolSearchAnswer table channel number highest limit a
-      unfolding pool_search_tests pool_tests shared_fault
-      on-stretch a s =
-          let q : x.first + x.segments - x.first ≡ x.segments = omega arith in
-          let s = rw (q, is) at s in
-          let e = none-shorter most_segments (channel ∷ []) (long, tt) in
-          record { found = s.found; finds = rw (clear, e) s.finds; is = rw (clear, e) s.is }
+      pub on-stretch : {limit : ℕ} {answer : Outcome (Document.Option ℕ)} →
+          SearchAnswer x.segments (take (end - from) (drop from channel)) highest limit answer →
+          PoolSearchAnswer table channel number highest limit answer
+      unfolding pool_search_tests pool_tests shared_fault any_shorter
+      on-stretch s =
+          let many : end - from ≡ x.segments = omega (arith, stretch.0, stretch.1) in
+          let s = rw (many, stretch.0, is) at s in
+          let q = or-false (ltb (length channel) most_segments) in
+          record { found = s.found; finds = rw (sym clear, q, sym long) s.finds; is = rw (sym clear, q, sym long) s.is }

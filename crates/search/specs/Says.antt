@@ -1,19 +1,13 @@
--- "For an answer that is an enum, a definition gives this paper's number and values for each of its cases."
-use Rattle.std.specs.Prelude.{List, ℕ}
-use Rattle.std.proofs.Math.Option.{Option, none, some}
-use Rattle.model.specs.Refusals.{Outcome, accepted, refused}
-use Rattle.model.specs.Search.{Finds}
-use Rattle.terms.specs.Says.{place_says}
-use Rattle.search.specs.declared.Search.{Search}
-use Rattle.search.specs.declared.Search.TheVariants as Search
+-- What a search answers as document 02, 5 has it: the number of a segment, or none.
+use Rattle.std.specs.Prelude.{ℕ, Option, Some, None, Result}
+use Rattle.std.proofs.Math.Option as Document
+use Rattle.model.specs.Refusals.{Outcome}
+use Rattle.terms.specs.declared.Refusal.{Refusal}
+use Rattle.terms.specs.Says.{outcome_says}
 
-abbrev pub search_says : Search → Outcome (Option ℕ)
-search_says (Search.Found number) = accepted (some number)
-search_says Search.Nothing = accepted none
-search_says (Search.Refused number place) = refused number (place_says place)
+abbrev pub found_says : Option ℕ → Document.Option ℕ
+found_says (Some number) = Document.some number
+found_says None = Document.none
 
--- what the loops found; they refuse nothing
-abbrev pub FindsSays : (n : ℕ) → (channel highest : List ℕ) → (limit : ℕ) → Search → Type 0
-FindsSays n channel highest limit (Search.Found number) = Finds n channel highest limit (some number)
-FindsSays n channel highest limit Search.Nothing = Finds n channel highest limit none
-FindsSays n channel highest limit (Search.Refused number place) = ⊥
+abbrev pub search_says : Result (Option ℕ) Refusal → Outcome (Document.Option ℕ)
+search_says = outcome_says found_says

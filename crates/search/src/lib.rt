@@ -1,84 +1,69 @@
 // Is any of the river above the limit? The search looks only into blocks of sixteen segments whose highest figure is above it.
 #![tactic(auto)]
 
-ghost use Rattle.std.specs.Prelude.{◌≡◌, ◌||◌, ◌≤◌, ltb, length};
-ghost use Rattle.model.specs.Ranges.{◌to◌, outside, most_segments};
-ghost use Rattle.model.specs.Highest.{block_count};
-ghost use Rattle.model.specs.Search.{SearchAnswer};
+ghost use Rattle.std.specs.Prelude.{◌≡◌, ◌||◌, [], ◌∷◌, ◌≤◌, length};
+ghost use Rattle.model.specs.Ranges.{most_segments};
+ghost use Rattle.model.specs.Calls.{river_fault};
+ghost use Rattle.model.specs.Highest.{block_count, blocks_fault};
+ghost use Rattle.model.specs.Search.{Finds, SearchAnswer};
 ghost use Rattle.model.specs.Pool.{PoolSearchAnswer};
 ghost use Rattle.terms.specs.Lent.{table_in};
-ghost use Rattle.search.specs.Says.{search_says, FindsSays};
+ghost use Rattle.search.specs.Says.{found_says, search_says};
 
 use blocks::BLOCK;
 use limits::{MOST_SEGMENTS, SEGMENTS, outside};
-use pool_table::{Table, number_fault, taken};
-use terms::Place;
+use pool_table::{Table, open_slot};
+use terms::{Fault, Refusal};
 
-// A segment that is above the limit, which counts from 1; nothing found; or refused.
-#[derive(Clone, Copy)]
-pub enum Search {
-    Found(u32),
-    Nothing,
-    Refused(u32, Place),
-}
-
-// The loops over the blocks and their segments; both are left with the segment found.
-fn find(n: usize, channel: &[u32], highest: &[u32], limit: u32) -> Search
+// The loops over the blocks and their segments; both are left with the segment found, which counts from 1, by the label that document 01 asks for.
+fn find(n: usize, channel: &[u32], highest: &[u32], limit: u32) -> Option<u32>
     requires { (n ≤ most_segments) × (n ≤ length channel.now) × (block_count n ≤ length highest.now) }
-    ensures { FindsSays n channel.now highest.now limit result }
+    ensures { Finds n channel.now highest.now limit (found_says result) }
 {
-    let mut found = Search::Nothing;
-    let mut b: usize = 0;
-    let mut from: usize = 0;
-    'blocks: while from < n {
-        let mut i = from;
+    let mut found = None;
+    'blocks: for b in 0..n.div_ceil(BLOCK) {
+        let from = b * BLOCK;
         if limit < highest[b] {
-            while i < n {
-                if from + BLOCK <= i {
-                    break;
-                }
+            for i in from..n.min(from + BLOCK) {
                 if limit < channel[i] {
-                    found = Search::Found(i as u32 + 1);
+                    found = Some(i as u32 + 1);
                     break 'blocks;
                 }
-                i += 1;
             }
         }
-        b += 1;
-        from += BLOCK;
     }
     found
 }
 
-// 13 of the segment count and the lengths of the two lists.
-fn fault(n: u32, channel: usize, highest: usize) -> bool
-    ensures { result ≡ (outside (1 to most_segments) n || (ltb channel n || ltb highest (block_count n))) }
+// 13 of the segment count and the two lists.
+#[tactic(auto, unfolding(model::specs::Calls::river_fault, model::specs::Highest::blocks_fault, lists::specs::Lists::any_shorter))]
+fn fault(n: u32, channel: &[u32], highest: &[u32]) -> bool
+    ensures { result ≡ (river_fault n (channel.now ∷ []) || blocks_fault n highest.now) }
 {
-    outside(SEGMENTS, n as u64) | ((channel < n as usize) | (highest < blocks::count(n)))
+    outside(SEGMENTS, u64::from(n))
+        || channel.len() < n as usize
+        || highest.len() < blocks::count(n)
 }
 
 // The search of a river whose lists are its own: 13 alone. Which segment it names is left open, but for what `SearchAnswer` says of it.
-pub fn alone(n: u32, channel: &[u32], highest: &[u32], limit: u32) -> Search
+pub fn alone(n: u32, channel: &[u32], highest: &[u32], limit: u32) -> Result<Option<u32>, Refusal>
     ensures { SearchAnswer n channel.now highest.now limit (search_says result) }
 {
-    if fault(n, channel.len(), highest.len()) {
-        return Search::Refused(13, Place::Nothing);
-    }
-    find(n as usize, channel, highest, limit)
+    Fault::ListLength.test(fault(n, channel, highest))?;
+    Ok(find(n as usize, channel, highest, limit))
 }
 
 // The search of an open river on a pool: 18, and 13, which wants 1,024 entries of the one shared list that it is lent.
-pub fn on_pool(river: u32, channel: &[u32], highest: &[u32], table: &Table, limit: u32) -> Search
+pub fn on_pool(
+    river: u32,
+    channel: &[u32],
+    highest: &[u32],
+    table: &Table,
+    limit: u32,
+) -> Result<Option<u32>, Refusal>
     ensures { PoolSearchAnswer (table_in table.now) channel.now river highest.now limit (search_says result) }
 {
-    if number_fault(*table, river) {
-        return Search::Refused(18, Place::Nothing);
-    }
-    if channel.len() < MOST_SEGMENTS as usize {
-        return Search::Refused(13, Place::Nothing);
-    }
-    let x = taken(*table, river as usize - 1);
-    let first = x.first as usize;
-    let end = first + (x.segments as usize);
-    alone(x.segments, &channel[first..end], highest, limit)
+    let slot = open_slot(*table, river)?;
+    Fault::ListLength.test(channel.len() < MOST_SEGMENTS as usize)?;
+    alone(slot.segments, &channel[slot.stretch()], highest, limit)
 }

@@ -11,9 +11,6 @@ use Rattle.sweep_laws.specs.Stable.{Fit, Stable}
 abbrev pub word : ℕ
 word = 4294967295
 
-abbrev pub row : (F R e g : ℕ) → Row
-row F R e g = record { F = F; e = e; g = g; R = R }
-
 -- a segment that a step accepts, with its figures
 pub record FiguresReady (x : Pair) (f : Figures) : Type 0 where
   pub accepted : Accepted x

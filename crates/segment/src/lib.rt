@@ -1,18 +1,17 @@
 // One segment of a step, on values: its right sides, F and R, what it passes down, and its new figures.
 #![tactic(auto)]
 
-ghost use Rattle.std.specs.Prelude.{◌≡◌, ◌+◌, ◌*◌, ◌≤◌};
+ghost use Rattle.std.specs.Prelude.{◌≡◌, ◌+◌, ◌*◌, ◌^◌, ◌<◌, ◌≤◌};
 ghost use Rattle.rounding.specs.Nearest.{S, nearest};
 ghost use Rattle.model.specs.Ranges.{highest};
-ghost use Rattle.model.specs.Equations.{channel_right, storage_right, sediment_right};
-ghost use Rattle.model.specs.Sweep.{P, N, storage_quotient, sediment_quotient, F, R, row_of, under, pass, clamp, new_storage, new_sediment, new_figures};
+ghost use Rattle.model.specs.Equations.{sum_v, channel_right, storage_right, sediment_right};
+ghost use Rattle.model.specs.Sweep.{storage_quotient, sediment_quotient, row_of, under, pass, clamp, new_storage, new_sediment, new_figures};
 ghost use Rattle.terms.specs.Says.{numbers_say};
-ghost use Rattle.sweep_laws.specs.Accepted.{Sums};
-ghost use Rattle.segment.specs.Says.{pair, pair_says, figures_say, passed_says};
-ghost use Rattle.segment.specs.Ready.{word, row, RowReady, PassReady, SegmentReady, RaiseReady, FiguresReady};
+ghost use Rattle.segment.specs.Says.{pair_says, figures_say, row_says, passed_says};
+ghost use Rattle.segment.specs.Ready.{word, PassReady, SegmentReady, RaiseReady, FiguresReady};
 
 use limits::HIGHEST;
-use rounding::WHOLE;
+use rounding::{WHOLE, nearest, nearest_tried, product};
 use terms::Numbers;
 
 // A segment in a step: its numbers on the old side and on the new side, CL and CB.
@@ -49,158 +48,198 @@ struct Terms {
     r: u64,
 }
 
-// F and R of a segment, and F's two quotients.
+// Storage or sediment in a step: the right side of its equation with the old numbers, and what the new ones divide it by.
+// That the divisor is above 0 stays a clause of its methods: two places make a store, each beside its use, so that a ghost field is no plainer.
+#[derive(Clone, Copy)]
+struct Store {
+    right: u64,
+    divisor: u64,
+}
+
+impl Store {
+    // Without the new C: P of storage, N of sediment.
+    fn alone(self) -> u64
+        requires { 0 < self.divisor }
+        ensures { result ≡ nearest self.right self.divisor }
+    {
+        nearest(self.right, self.divisor)
+    }
+
+    // With the new C, by the new number: Z' of storage, W' of sediment.
+    fn with(self, number: u32, c: u32) -> u64
+        requires divides { 0 < self.divisor }
+        requires fits { self.right + number * c < 2 ^ 64 }
+        ensures { result ≡ nearest (self.right + number * c) self.divisor }
+    {
+        nearest(self.right + product(number, c), self.divisor)
+    }
+
+    // What it adds to a row: number × factor by the divisor to F, and number × P or N to R; nothing, and nothing is divided, where the
+    // number is 0. `quotient` may be the one that F has, and is trusted for nothing.
+    #[inline(always)]
+    fn terms(self, number: u32, factor: u64, quotient: u64) -> Terms
+        requires divides { (0 < self.divisor) × (self.divisor ≤ 2 * S) }
+        requires number { number ≤ S }
+        requires factor { factor ≤ self.divisor }
+        requires figure { nearest self.right self.divisor ≤ highest }
+        ensures f { (result.f ≡ nearest (number * factor) self.divisor) × (result.f ≤ number) }
+        ensures r { (result.r ≡ number * nearest self.right self.divisor) × (result.r ≤ S * highest) }
+    {
+        if number == 0 {
+            return Terms { f: 0, r: 0 };
+        }
+        let number = u64::from(number);
+        Terms {
+            f: nearest_tried(number * factor, self.divisor, quotient),
+            r: number * self.alone(),
+        }
+    }
+}
+
+// What the two passes need of a segment: F, R, and the new e and g; and F's two quotients.
 #[derive(Clone, Copy)]
 struct Row {
     f: u64,
     r: u64,
+    e: u32,
+    g: u32,
     storage: u64,
     sediment: u64,
 }
 
-// (S−T)C + eCabove + gCbelow + aZ + sW + 2lCL with the old numbers, 2l being the old l plus the new.
-fn channel_right(old: Numbers, new: Numbers, cl: u32, above: u32, below: u32, f: Figures) -> u64
-    requires sums { Sums (numbers_say old) }
-    requires sums_2 { Sums (numbers_say new) }
-    ensures { (result ≡ channel_right (pair old new cl 0) above below (figures_say f)) × (result ≤ 2 * (S * word)) }
-{
-    (WHOLE - old.sum_t()) * (f.c as u64)
-        + (old.e as u64) * (above as u64)
-        + (old.g as u64) * (below as u64)
-        + (old.a as u64) * (f.z as u64)
-        + (old.s as u64) * (f.w as u64)
-        + ((old.l as u64) + (new.l as u64)) * (cl as u64)
-}
-
-// (S−V)Z + bC + 2mCB with the old numbers, 2m being the old m plus the new.
-fn storage_right(old: Numbers, new: Numbers, cb: u32, f: Figures) -> u64
-    requires sums { Sums (numbers_say old) }
-    requires sums_2 { Sums (numbers_say new) }
-    ensures { result ≡ storage_right (pair old new 0 cb) (figures_say f) }
-{
-    (WHOLE - old.sum_v()) * (f.z as u64)
-        + (old.b as u64) * (f.c as u64)
-        + ((old.m as u64) + (new.m as u64)) * (cb as u64)
-}
-
-// (S−h)W + hC with the old numbers.
-fn sediment_right(old: Numbers, f: Figures) -> u64
-    requires { Sums (numbers_say old) }
-    ensures { result ≡ sediment_right (pair old old 0 0) (figures_say f) }
-{
-    (WHOLE - (old.h as u64)) * (f.w as u64) + (old.h as u64) * (f.c as u64)
-}
-
-// P = ((S−V)Z + bC + 2mCB)/(S+V): the old numerator by the new S+V.
-fn p_of(x: Pair, f: Figures) -> u64
-    requires sums { Sums (numbers_say x.old) }
-    requires sums_2 { Sums (numbers_say x.new) }
-    ensures { result ≡ P (pair_says x) (figures_say f) }
-{
-    rounding::nearest(storage_right(x.old, x.new, x.cb, f), WHOLE + x.new.sum_v())
-}
-
-// N = ((S−h)W + hC)/(S+h): the old numerator by the new S+h.
-fn n_of(x: Pair, f: Figures) -> u64
-    requires { Sums (numbers_say x.old) }
-    ensures { result ≡ N (pair_says x) (figures_say f) }
-{
-    rounding::nearest(sediment_right(x.old, f), WHOLE + (x.new.h as u64))
-}
-
-// What storage adds to a row: a(S+ks+m)/(S+V) to F and aP to R, with the new numbers; nothing, and nothing is divided, without exchange.
-// `quotient` may be the one that F has, and is trusted for nothing.
-fn storage_terms(x: Pair, f: Figures, quotient: u64) -> Terms
-    requires { FiguresReady (pair_says x) (figures_say f) }
-    ensures { (result.f ≡ storage_quotient (numbers_say x.new)) × (result.r ≡ x.new.a * P (pair_says x) (figures_say f)) }
-{
-    if x.new.a == 0 {
-        return Terms { f: 0, r: 0 };
-    }
-    let a = x.new.a as u64;
-    Terms {
-        f: rounding::nearest_tried(
-            a * (WHOLE + (x.new.ks as u64) + (x.new.m as u64)),
-            WHOLE + x.new.sum_v(),
-            quotient,
-        ),
-        r: a * p_of(x, f),
+impl Row {
+    // H, and with it p and y, from p and y above. p rests on the numbers alone: `p` may be what an earlier step found, and is trusted for
+    // nothing. F's quotients are handed on.
+    fn pass(self, d: Passed, p: u64) -> Passed
+        requires { PassReady (row_says self) (passed_says d) }
+        ensures passed { passed_says result ≡ pass (under (passed_says d)) (row_says self) }
+        ensures quotients { (result.storage ≡ self.storage) × (result.sediment ≡ self.sediment) }
+    {
+        let e = u64::from(self.e);
+        let h = self.f - nearest(e * d.p, WHOLE);
+        Passed {
+            p: nearest_tried(u64::from(self.g) * WHOLE, h, p),
+            y: nearest(self.r + e * d.y, h),
+            storage: self.storage,
+            sediment: self.sediment,
+        }
     }
 }
 
-// What sediment adds to a row: sS/(S+h) to F and sN to R, with the new numbers; nothing without sorption. `quotient` is as above.
-fn sediment_terms(x: Pair, f: Figures, quotient: u64) -> Terms
-    requires { FiguresReady (pair_says x) (figures_say f) }
-    ensures { (result.f ≡ sediment_quotient (numbers_say x.new)) × (result.r ≡ x.new.s * N (pair_says x) (figures_say f)) }
-{
-    if x.new.s == 0 {
-        return Terms { f: 0, r: 0 };
-    }
-    let s = x.new.s as u64;
-    Terms {
-        f: rounding::nearest_tried(s * WHOLE, WHOLE + (x.new.h as u64), quotient),
-        r: s * n_of(x, f),
-    }
+// A segment that a step accepts, with its old figures.
+#[derive(Clone, Copy)]
+struct Segment {
+    pair: Pair,
+    figures: Figures,
+    ghost ready: { FiguresReady (pair_says pair) (figures_say figures) },
 }
 
-// F = S+e+g+l+k + a(S+ks+m)/(S+V) + sS/(S+h) of the new numbers, and R: the channel's right side plus aP + sN with the new a and s. F's
-// quotients are tried from those of the segment above.
-fn row_of(x: Pair, above: u32, below: u32, f: Figures, d: Passed) -> Row
-    requires { RowReady (pair_says x) (figures_say f) above below }
-    ensures { (result.f ≡ F (numbers_say x.new)) × (result.r ≡ R (pair_says x) above below (figures_say f))
-        × (result.storage ≡ storage_quotient (numbers_say x.new)) × (result.sediment ≡ sediment_quotient (numbers_say x.new)) }
-{
-    let right = channel_right(x.old, x.new, x.cl, above, below, f);
-    let storage = storage_terms(x, f, d.storage);
-    let sediment = sediment_terms(x, f, d.sediment);
-    let n = x.new;
-    Row {
-        f: WHOLE
-            + (n.e as u64)
-            + (n.g as u64)
-            + (n.l as u64)
-            + (n.k as u64)
-            + storage.f
-            + sediment.f,
-        r: right + storage.r + sediment.r,
-        storage: storage.f,
-        sediment: sediment.f,
+impl Segment {
+    // (S−T)C + eCabove + gCbelow + aZ + sW + 2lCL with the old numbers, 2l being the old l plus the new.
+    fn channel_right(self, above: u32, below: u32) -> u64
+        ensures { (result ≡ channel_right (pair_says self.pair) above below (figures_say self.figures)) × (result ≤ 2 * (S * word)) }
+    {
+        let Pair { old, new, cl, .. } = self.pair;
+        let f = self.figures;
+        (WHOLE - old.sum_t()) * u64::from(f.c)
+            + product(old.e, above)
+            + product(old.g, below)
+            + product(old.a, f.z)
+            + product(old.s, f.w)
+            + (u64::from(old.l) + u64::from(new.l)) * u64::from(cl)
     }
-}
 
-// H, and with it p and y, from p and y above. p rests on the numbers alone: `p` may be what an earlier step found, and is trusted for
-// nothing. F's quotients are handed on.
-fn pass(f: u64, r: u64, e: u32, g: u32, storage: u64, sediment: u64, d: Passed, p: u64) -> Passed
-    requires { PassReady (row f r e g) (passed_says d) }
-    ensures { (passed_says result ≡ pass (under (passed_says d)) (row f r e g)) × (result.storage ≡ storage) × (result.sediment ≡ sediment) }
-{
-    let h = f - rounding::nearest((e as u64) * d.p, WHOLE);
-    Passed {
-        p: rounding::nearest_tried((g as u64) * WHOLE, h, p),
-        y: rounding::nearest(r + (e as u64) * d.y, h),
-        storage: storage,
-        sediment: sediment,
+    // (S−V)Z + bC + 2mCB with the old numbers, 2m being the old m plus the new, by the new S+V.
+    fn storage(self) -> Store
+        ensures right { result.right ≡ storage_right (pair_says self.pair) (figures_say self.figures) }
+        ensures divisor { result.divisor ≡ S + sum_v (numbers_say self.pair.new) }
+    {
+        let Pair { old, new, cb, .. } = self.pair;
+        let f = self.figures;
+        Store {
+            right: (WHOLE - old.sum_v()) * u64::from(f.z)
+                + product(old.b, f.c)
+                + (u64::from(old.m) + u64::from(new.m)) * u64::from(cb),
+            divisor: WHOLE + new.sum_v(),
+        }
+    }
+
+    // (S−h)W + hC with the old numbers, by the new S+h.
+    fn sediment(self) -> Store
+        ensures right { result.right ≡ sediment_right (pair_says self.pair) (figures_say self.figures) }
+        ensures divisor { result.divisor ≡ S + self.pair.new.h }
+    {
+        let h = self.pair.old.h;
+        let f = self.figures;
+        Store {
+            right: (WHOLE - u64::from(h)) * u64::from(f.w) + product(h, f.c),
+            divisor: WHOLE + u64::from(self.pair.new.h),
+        }
+    }
+
+    // F = S+e+g+l+k + a(S+ks+m)/(S+V) + sS/(S+h) of the new numbers, and R: the channel's right side plus aP + sN with the new a and s. F's
+    // quotients are tried from those of the segment above.
+    #[tactic(auto, unfolding(model::specs::Sweep::row_of, model::specs::Sweep::F, model::specs::Sweep::R, model::specs::Sweep::P, model::specs::Sweep::N))]
+    fn row(self, above: u32, below: u32, d: Passed) -> Row
+        requires { (above ≤ highest) × (below ≤ highest) }
+        ensures row { row_says result ≡ row_of (pair_says self.pair) above below (figures_say self.figures) }
+        ensures storage { result.storage ≡ storage_quotient (numbers_say self.pair.new) }
+        ensures sediment { result.sediment ≡ sediment_quotient (numbers_say self.pair.new) }
+    {
+        let n = self.pair.new;
+        let right = self.channel_right(above, below);
+        let exchanged = WHOLE + u64::from(n.ks) + u64::from(n.m);
+        let storage = self.storage().terms(n.a, exchanged, d.storage);
+        let sediment = self.sediment().terms(n.s, WHOLE, d.sediment);
+        Row {
+            f: WHOLE
+                + u64::from(n.e)
+                + u64::from(n.g)
+                + u64::from(n.l)
+                + u64::from(n.k)
+                + storage.f
+                + sediment.f,
+            r: right + storage.r + sediment.r,
+            e: n.e,
+            g: n.g,
+            storage: storage.f,
+            sediment: sediment.f,
+        }
+    }
+
+    // Z' = ((S−V)Z + bC + 2mCB + bC')/(S+V): the old right side, the new b and V.
+    fn new_storage(self, c: u32) -> u32
+        requires { c ≤ highest }
+        ensures { result ≡ new_storage (pair_says self.pair) (figures_say self.figures) c }
+    {
+        self.storage().with(self.pair.new.b, c) as u32
+    }
+
+    // W' = ((S−h)W + hC + hC')/(S+h): the old right side, the new h. Without sorption on either side it is W.
+    fn new_sediment(self, c: u32) -> u32
+        requires { c ≤ highest }
+        ensures { result ≡ new_sediment (pair_says self.pair) (figures_say self.figures) c }
+    {
+        let Pair { old, new, .. } = self.pair;
+        if old.h == 0 && new.h == 0 {
+            return self.figures.w;
+        }
+        self.sediment().with(new.h, c) as u32
     }
 }
 
 // p and y of a segment, from p and y above, and F's two quotients of its new numbers. `p` may be the new p; it and the quotients above are
-// trusted for nothing.
+// trusted for nothing. `above` and `below` stay two numbers: a struct of them is no plainer, as it would be made and read for this call alone.
 pub fn passed_down(x: Pair, above: u32, below: u32, f: Figures, d: Passed, p: u64) -> Passed
     requires { SegmentReady (pair_says x) (figures_say f) above below (passed_says d) }
     ensures { (passed_says result ≡ pass (under (passed_says d)) (row_of (pair_says x) above below (figures_say f)))
         × (result.storage ≡ storage_quotient (numbers_say x.new)) × (result.sediment ≡ sediment_quotient (numbers_say x.new)) }
 {
-    let row = row_of(x, above, below, f, d);
-    pass(
-        row.f,
-        row.r,
-        x.new.e,
-        x.new.g,
-        row.storage,
-        row.sediment,
-        d,
-        p,
-    )
+    let segment = Segment {
+        pair: x,
+        figures: f,
+    };
+    segment.row(above, below, d).pass(d, p)
 }
 
 // y + (p × C' below)/S
@@ -208,54 +247,23 @@ pub fn raised(d: Passed, below: u64) -> u64
     requires { RaiseReady (passed_says d) below }
     ensures { (result ≡ d.y + nearest (d.p * below) S) × (result ≤ S) }
 {
-    d.y + rounding::nearest(d.p * below, WHOLE)
+    d.y + nearest(d.p * below, WHOLE)
 }
 
-// Anything above the highest concentration becomes that.
-fn clamped(c: u64) -> u32
-    ensures { (result ≡ clamp c) × (result ≤ highest) }
-{
-    if c <= HIGHEST as u64 {
-        c as u32
-    } else {
-        HIGHEST
-    }
-}
-
-// Z' = ((S−V)Z + bC + 2mCB + bC')/(S+V): the old right side, the new b and V.
-fn new_storage(x: Pair, f: Figures, c: u32) -> u32
-    requires figures_ready { FiguresReady (pair_says x) (figures_say f) }
-    requires c_le_highest { c ≤ highest }
-    ensures { result ≡ new_storage (pair_says x) (figures_say f) c }
-{
-    rounding::nearest(
-        storage_right(x.old, x.new, x.cb, f) + (x.new.b as u64) * (c as u64),
-        WHOLE + x.new.sum_v(),
-    ) as u32
-}
-
-// W' = ((S−h)W + hC + hC')/(S+h): the old right side, the new h. Without sorption on either side it is W.
-fn new_sediment(x: Pair, f: Figures, c: u32) -> u32
-    requires figures_ready { FiguresReady (pair_says x) (figures_say f) }
-    requires c_le_highest { c ≤ highest }
-    ensures { result ≡ new_sediment (pair_says x) (figures_say f) c }
-{
-    let h = x.new.h as u64;
-    if (x.old.h as u64) + h == 0 {
-        return f.w;
-    }
-    rounding::nearest(sediment_right(x.old, f) + h * (c as u64), WHOLE + h) as u32
-}
-
-// The new figures of a segment, from its old ones and its uncut C'.
+// The new figures of a segment, from its old ones and its uncut C': anything above the highest concentration becomes that.
+#[tactic(auto, unfolding(model::specs::Sweep::new_figures))]
 pub fn new_figures(x: Pair, f: Figures, raised: u64) -> Figures
     requires { FiguresReady (pair_says x) (figures_say f) }
     ensures { figures_say result ≡ new_figures (pair_says x) (figures_say f) (clamp raised) }
 {
-    let c = clamped(raised);
+    let segment = Segment {
+        pair: x,
+        figures: f,
+    };
+    let c = raised.min(u64::from(HIGHEST)) as u32;
     Figures {
-        c: c,
-        z: new_storage(x, f, c),
-        w: new_sediment(x, f, c),
+        c,
+        z: segment.new_storage(c),
+        w: segment.new_sediment(c),
     }
 }

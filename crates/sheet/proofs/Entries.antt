@@ -1,6 +1,6 @@
 -- Laws of reaches, rows, gauges and flow rows: those of a sheet, entry by entry, and the rule on starts, told by a row and the one before it.
-use mathlib.Core.Path.{◌≡◌, refl, sym, ◌∙◌}
-use mathlib.Core.Bool.{Bool, false, not, ◌||◌}
+use mathlib.Core.Path.{◌≡◌, refl, sym, ap, ◌∙◌}
+use mathlib.Core.Bool.{Bool, true, false, true≢false, not, ◌||◌}
 use mathlib.Core.List.{List}
 use Prim.Native.Nat.{ℕ, zero, suc, ◌+◌, ◌-◌, ◌<◌, ◌≤◌}
 use native.Mathlib.Omega.{arith}
@@ -15,6 +15,8 @@ use Rattle.model.specs.Ranges.{◌to◌, outside, concentration, flows, reach_se
 use Rattle.model.specs.Sheet.{edition, record_field, reach_count_at, reach_fields, row_count_at, gauge_count_at, row_count, gauge_count}
 use Rattle.model.specs.Sheet.{row_starts, row_concentrations, gauges, flow_row_count, flow_row_start, flow_row_top, flow_row_starts, flow_row_tops}
 use Rattle.model.specs.Load.{starts_late, row_fault, gauge_fault, flow_row_fault}
+use Rattle.std.specs.Prelude.{Option, None, Some, is_none, is_some, unwrap_or}
+use Rattle.std.specs.Bool.{then_some}
 use Rattle.sheet.specs.Entries.{Before}
 use Rattle.sheet.proofs.InRange.{Within, within}
 
@@ -50,18 +52,18 @@ module _ (sheet : List ℕ) (j : ℕ) where
   flow-row-top h = get_or-tab _ (flow_row_count sheet) j 0 h
 
 -- a loop over n entries whose first fields are to rise: none below j is at fault, and the one before it has this first field
-pub record Passing (fault : ℕ → Bool) (n : ℕ) (rising : List ℕ) (j before : ℕ) : Type 0 where
+pub record Passing (fault : ℕ → Bool) (n : ℕ) (rising : List ℕ) (j : ℕ) (before : Option ℕ) : Type 0 where
   pub searching : Searching fault n j
   pub last : Before rising j before
 
 module _ {fault : ℕ → Bool} {n : ℕ} {rising : List ℕ} where
-  pub passing-start : Passing fault n rising 0 0
-  passing-start = record { searching = searching-start; last = λ h. absurd (omega arith) }
+  pub passing-start : Passing fault n rising 0 None
+  passing-start = record { searching = searching-start; last = refl }
 
-  pub passing-miss : {j before first : ℕ} → Passing fault n rising j before → j < n → fault j ≡ false → get_or rising j 0 ≡ first →
-      Passing fault n rising (j + 1) first
+  pub passing-miss : {j first : ℕ} {before : Option ℕ} → Passing fault n rising j before → j < n → fault j ≡ false → get_or rising j 0 ≡ first →
+      Passing fault n rising (j + 1) (Some first)
   passing-miss {j} r h e first-is =
-      let back : j + 1 - 1 ≡ j = omega arith in record { searching = searching-miss r.searching h e; last = λ l. rw back first-is }
+      let back : j + 1 - 1 ≡ j = omega arith in record { searching = searching-miss r.searching h e; last = (omega arith, rw back first-is) }
 
 -- the first row
 pub late-first : (starts : List ℕ) (j start : ℕ) → get_or starts j 0 ≡ start → j ≡ 0 → not (eqb start 0) ≡ starts_late starts j
@@ -118,3 +120,12 @@ flow-row-right M starts tops j e =
     let two = neither (outside (1 to M) (get_or starts j 0) || not_rising starts j) _ e in
     let one = neither (outside (1 to M) (get_or starts j 0)) _ two.0 in
     record { start = within _ _ one.0; rises = λ h. leb-false _ _ (sym (not-rising starts j h) ∙ one.1); top = within _ _ two.1 }
+
+-- an entry that breaks its rule gives nothing, and one that keeps it its first field
+pub breaks : (fault : Bool) (first : ℕ) → None ≡ then_some (not fault) first → fault ≡ true
+breaks true first e = refl
+breaks false first e = absurd (true≢false (ap is_none e))
+
+pub keeps : (fault : Bool) {first x : ℕ} → Some x ≡ then_some (not fault) first → (fault ≡ false) × (first ≡ x)
+keeps true e = absurd (true≢false (ap is_some e))
+keeps false {first} e = (refl, sym (ap (λ o. unwrap_or o first) e))

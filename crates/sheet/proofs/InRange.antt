@@ -1,5 +1,5 @@
 -- Laws of `outside` and `any_outside`: a loop over fields and their ranges, and what is known of fields that are all in range.
-use mathlib.Core.Path.{◌≡◌, refl, sym, ◌∙◌}
+use mathlib.Core.Path.{◌≡◌, sym, ◌∙◌}
 use mathlib.Core.Bool.{true, false}
 use mathlib.Core.List.{List, [], ◌∷◌}
 use Prim.Native.Nat.{ℕ, zero, suc, ◌+◌, ◌<◌, ◌≤◌}
@@ -14,9 +14,6 @@ use Rattle.model.specs.Ranges.{Range, outside, any_outside}
 -- the first k fields are in range
 pub record Checking (ranges : List Range) (fields : List ℕ) (k : ℕ) : Type 0 where
   pub rest : any_outside (drop k ranges) (drop k fields) ≡ any_outside ranges fields
-
-pub checking-start : {ranges : List Range} {fields : List ℕ} → Checking ranges fields 0
-checking-start = record { rest = refl }
 
 module _ {ranges : List Range} {fields : List ℕ} {k : ℕ} (r : Checking ranges fields k) where
   pub checking-end : length ranges ≤ k → false ≡ any_outside ranges fields

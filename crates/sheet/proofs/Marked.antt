@@ -1,42 +1,64 @@
--- Laws of `starts_with`, of a mark of four bytes.
-use mathlib.Core.Path.{◌≡◌, refl}
-use mathlib.Core.Bool.{Bool, true, false, ◌&&◌}
+-- The library's `starts_with` is the documents', and what a sheet's mark says of its edition.
+use mathlib.Core.Path.{◌≡◌, refl, sym, ap, ap₂, ◌∙◌}
+use mathlib.Core.Bool.{Bool, true, false, true≢false, not, ◌&&◌}
 use mathlib.Core.List.{List, [], ◌∷◌}
-use Prim.Native.Nat.{ℕ, ◌<◌, ◌≤◌}
-use native.Mathlib.Omega.{arith}
-use lib.Dec.{eqb}
-use lib.ListN.{length, get_or}
+use Prim.Native.Nat.{ℕ}
+use borrow.Author.Tests.{eq-eqb, ne_eqb, eqb-true}
+use lib.Dec.{eqb, leb}
+use Rattle.std.specs.Prelude.{Option, None, Some, is_none}
+use Rattle.std.specs.List as Library
+use Rattle.std.specs.Option.{option_partial_cmp}
+use Rattle.std.specs.Ordering.{partial_lt}
 use Rattle.model.specs.Sheet.{starts_with}
+use Rattle.sheet.specs.Editions.{mark_says}
+use Rattle.sheet.specs.contracts.editions.MarkPartialOrd.TheImpl.{partial_cmp-value}
+use Rattle.sheet.specs.declared.editions.Mark.{Mark}
+use Rattle.sheet.specs.declared.editions.Mark.TheVariants.{Otr1, Otr2, Otr3}
 
--- a sheet of fewer bytes
-pub mark-short : (mark sheet : List ℕ) → length sheet < length mark → false ≡ starts_with mark sheet
-unfolding starts_with
-mark-short [] sheet h = absurd (omega arith)
-mark-short (byte ∷ mark) [] h = refl
-mark-short (byte ∷ mark) (b ∷ sheet) h = go (eqb b byte) (mark-short mark sheet (omega arith))
+swapped : (a b : ℕ) → eqb a b ≡ eqb b a
+swapped a b = go (eqb a b) refl
   where
-    go : (t : Bool) → false ≡ starts_with mark sheet → false ≡ (t && starts_with mark sheet)
-    go true e = e
-    go false e = refl
+    go : (t : Bool) → eqb a b ≡ t → eqb a b ≡ eqb b a
+    go true e = e ∙ sym (eq-eqb b a (sym (eqb-true a b e)))
+    go false e = e ∙ sym (ne_eqb b a (λ q. true≢false (sym (eq-eqb a b (sym q)) ∙ e)))
 
--- the four comparisons, one behind the other
-in-turn : (a b c d : Bool) → (((a && b) && c) && d) ≡ (a && (b && (c && (d && true))))
-in-turn false b c d = refl
-in-turn true false c d = refl
-in-turn true true false d = refl
-in-turn true true true false = refl
-in-turn true true true true = refl
-
-pub mark-bytes : (mark sheet : List ℕ) → length mark ≡ 4 → 4 ≤ length sheet → let same : ℕ → Bool = λ i. eqb (get_or sheet i 0) (get_or mark i 0) in
-    (((same 0 && same 1) && same 2) && same 3) ≡ starts_with mark sheet
+-- the library compares each byte of the mark with the sheet's, the documents the other way
+pub same-start : (sheet mark : List ℕ) → Library.starts_with eqb sheet mark ≡ starts_with mark sheet
 unfolding starts_with
-mark-bytes (a ∷ b ∷ c ∷ d ∷ []) (x ∷ y ∷ z ∷ w ∷ sheet) l h = in-turn (eqb x a) (eqb y b) (eqb z c) (eqb w d)
-mark-bytes (a ∷ b ∷ c ∷ d ∷ []) [] l h = absurd (omega arith)
-mark-bytes (a ∷ b ∷ c ∷ d ∷ []) (x ∷ []) l h = absurd (omega arith)
-mark-bytes (a ∷ b ∷ c ∷ d ∷ []) (x ∷ y ∷ []) l h = absurd (omega arith)
-mark-bytes (a ∷ b ∷ c ∷ d ∷ []) (x ∷ y ∷ z ∷ []) l h = absurd (omega arith)
-mark-bytes [] sheet l h = absurd (omega arith)
-mark-bytes (a ∷ []) sheet l h = absurd (omega arith)
-mark-bytes (a ∷ b ∷ []) sheet l h = absurd (omega arith)
-mark-bytes (a ∷ b ∷ c ∷ []) sheet l h = absurd (omega arith)
-mark-bytes (a ∷ b ∷ c ∷ d ∷ e ∷ mark) sheet l h = absurd (omega arith)
+same-start sheet [] = refl
+same-start [] (byte ∷ mark) = refl
+same-start (b ∷ sheet) (byte ∷ mark) = ap₂ ◌&&◌ (swapped byte b) (same-start sheet mark)
+
+module _ (sheet mark : List ℕ) {starts : Bool} (e : starts ≡ Library.starts_with eqb sheet mark) where
+  pub marked : starts ≡ true → starts_with mark sheet ≡ true
+  marked h = sym (same-start sheet mark) ∙ sym e ∙ h
+
+  pub not-marked : starts ≡ false → starts_with mark sheet ≡ false
+  not-marked h = sym (same-start sheet mark) ∙ sym e ∙ h
+
+-- whether a mark is before another says which is the higher edition
+before : (mark : Option Mark) (first : Mark) → leb (mark_says (Some first)) (mark_says mark) ≡ not (partial_lt (option_partial_cmp partial_cmp-value.it) mark (Some first))
+before None Otr1 = refl
+before None Otr2 = refl
+before None Otr3 = refl
+before (Some Otr1) Otr1 = refl
+before (Some Otr1) Otr2 = refl
+before (Some Otr1) Otr3 = refl
+before (Some Otr2) Otr1 = refl
+before (Some Otr2) Otr2 = refl
+before (Some Otr2) Otr3 = refl
+before (Some Otr3) Otr1 = refl
+before (Some Otr3) Otr2 = refl
+before (Some Otr3) Otr3 = refl
+
+-- the test of a sheet's mark, as the code writes it, has come out so
+pub since-mark : (mark : Option Mark) {n : ℕ} → mark_says mark ≡ n → (first : Mark) → {less t : Bool} →
+    less ≡ partial_lt (option_partial_cmp partial_cmp-value.it) mark (Some first) → less ≡ t → leb (mark_says (Some first)) n ≡ not t
+since-mark mark e first l t = ap (leb (mark_says (Some first))) (sym e) ∙ before mark first ∙ ap not (sym l ∙ t)
+
+-- there is none
+pub unmarked : (mark : Option Mark) → is_none mark ≡ eqb (mark_says mark) 0
+unmarked None = refl
+unmarked (Some Otr1) = refl
+unmarked (Some Otr2) = refl
+unmarked (Some Otr3) = refl

@@ -4,7 +4,7 @@ use mathlib.Core.List.{List}
 use Prim.Native.Nat.{ℕ, ◌+◌, ◌-◌, ◌^◌, ◌≤◌, min}
 use native.Mathlib.Decide.{dec_le}
 use native.Mathlib.Omega.{arith}
-use lib.ListN.{length, get_or-eq_default}
+use lib.ListN.{length, get_or, get_or-eq_default}
 use Rattle.model.specs.Sheet.{field}
 
 -- the highest usize
@@ -26,4 +26,12 @@ field-far sheet at at' h e =
     elim (dec_le at far) [
       | yes l ↦ ap (field sheet) (omega arith)
       | no g ↦ field_past sheet at' (omega arith) ∙ sym (field_past sheet at (omega arith))
+    ]
+
+-- the byte behind a field's first one by k
+pub byte-far : (sheet : List ℕ) (at k : ℕ) {place : ℕ} → length sheet ≤ far → place ≡ min (at + k) far → get_or sheet place 0 ≡ get_or sheet (at + k) 0
+byte-far sheet at k h e =
+    elim (dec_le (at + k) far) [
+      | yes l ↦ ap (λ i. get_or sheet i 0) (omega arith)
+      | no g ↦ get_or-eq_default sheet 0 (omega arith) ∙ sym (get_or-eq_default sheet 0 (omega arith))
     ]

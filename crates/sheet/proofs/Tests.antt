@@ -8,8 +8,14 @@ use borrow.Author.Tests.{lt-ltb, le-ltb}
 use lib.ListN.{length, get_or, take}
 use lib.Seq.{take_all}
 use Rattle.lists.proofs.Lowest.{Searching, searching-hit, searching-end}
-use Rattle.model.specs.Refusals.{Place, Finding, passes, fails, test_each, first}
+use Rattle.model.specs.Refusals.{Place, Finding, nothing, passes, fails, test, test_each, first}
 use Rattle.model.proofs.Refusals.{fails-passes}
+
+-- a test whose place is nothing, where it fails
+pub failed : {number number' : ℕ} {fault : Bool} {place : Place} → fails number' place ≡ test number fault →
+    (fault ≡ true) × (fails number' place ≡ fails number nothing)
+failed {fault = true} e = (refl, e)
+failed {fault = false} e = fails-passes e
 
 module _ (number : ℕ) (place : ℕ → Place) {fault : ℕ → Bool} {n i : ℕ} (r : Searching fault n i) where
   -- a loop that finds i at fault
@@ -39,9 +45,6 @@ one-fails (fails number place ∷ tests) (suc k) e f = fails-passes e
 -- the first k tests pass
 pub record Judging (tests : List Finding) (k : ℕ) : Type 0 where
   pub front : first (take k tests) ≡ passes
-
-pub judging-start : {tests : List Finding} → Judging tests 0
-judging-start = record { front = refl }
 
 module _ {tests : List Finding} {k : ℕ} (r : Judging tests k) where
   pub judging-end : length tests ≤ k → passes ≡ first tests

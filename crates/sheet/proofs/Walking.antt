@@ -1,5 +1,5 @@
 -- Laws of `walk` and `sections_end`, for loops that go from section to section.
-use mathlib.Core.Path.{◌≡◌, refl, sym, ap, ◌∙◌}
+use mathlib.Core.Path.{◌≡◌, sym, ap, ◌∙◌}
 use mathlib.Core.Bool.{true, false, cond}
 use mathlib.Core.List.{List, [], ◌∷◌}
 use Prim.Native.Nat.{ℕ, suc, ◌+◌, ◌<◌, ◌≤◌}
@@ -18,9 +18,6 @@ use Rattle.sheet.proofs.InRange.{Within, within}
 -- k sections are right, and the next one's count stands at `at`
 pub record Walking (sheet : List ℕ) (from : ℕ) (sections : List Section) (k at : ℕ) : Type 0 where
   pub rest : walk sheet at (drop k sections) ≡ walk sheet from sections
-
-pub walking_start : {sheet : List ℕ} {from : ℕ} {sections : List Section} → Walking sheet from sections 0 from
-walking_start = record { rest = refl }
 
 module _ {sheet : List ℕ} {from : ℕ} {sections : List Section} {k at : ℕ} (r : Walking sheet from sections k at) where
   pub walking-end : length sections ≤ k → passes ≡ walk sheet from sections
@@ -50,9 +47,6 @@ module _ {sheet : List ℕ} {from : ℕ} {sections : List Section} {k at : ℕ} 
 -- k sections lie behind `at`, for a loop that looks for the end
 pub record Ending (sheet : List ℕ) (from : ℕ) (sections : List Section) (k at : ℕ) : Type 0 where
   pub rest : sections_end sheet at (drop k sections) ≡ sections_end sheet from sections
-
-pub ending-start : {sheet : List ℕ} {from : ℕ} {sections : List Section} → Ending sheet from sections 0 from
-ending-start = record { rest = refl }
 
 module _ {sheet : List ℕ} {from : ℕ} {sections : List Section} {k at : ℕ} (r : Ending sheet from sections k at) where
   pub ending-end : length sections ≤ k → at ≡ sections_end sheet from sections

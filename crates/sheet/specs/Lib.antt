@@ -1,3 +1,4 @@
+pub mod Editions
 pub mod Entries
 pub mod Rows
 pub mod Walks

@@ -1,66 +1,57 @@
-// The mark, read as the number of an edition, and the sections that a sheet of that edition has.
+// The mark, which stands for an edition, and the sections that a sheet of that edition has.
 ghost use Rattle.std.specs.Prelude.{◌≡◌, List, ℕ, ◌+◌, ◌<◌, ◌≤◌, length, get_or};
-ghost use Rattle.model.specs.Ranges.{reach_section, band_section};
+ghost use Rattle.model.specs.Ranges.{band_section};
 ghost use Rattle.model.specs.Sheet as Document;
-ghost use Rattle.model.specs.Sheet.{starts_with, edition, reach_count, sections};
+ghost use Rattle.model.specs.Sheet.{reach_count, sections};
 ghost use Rattle.limits.specs.Says.{section_says};
+ghost use Rattle.sheet.specs.Editions.{mark_says};
 
+use crate::fields::reach_count;
 use limits::{BANDS, FLOW_ROWS, GAUGES, REACHES, ROWS, Section};
 
-// The sheet starts with these four bytes.
-fn starts_with(sheet: &[u8], mark: &[u8]) -> bool
-    requires { length mark.now ≡ 4 }
-    ensures { result ≡ starts_with mark.now sheet.now }
-{
-    if sheet.len() < 4 {
-        return false;
-    }
-    (sheet[0] == mark[0]) & (sheet[1] == mark[1]) & (sheet[2] == mark[2]) & (sheet[3] == mark[3])
+// The marks that a sheet can start with, one for each edition.
+#[derive(Clone, Copy, Debug, PartialEq, Eq, PartialOrd, Ord)]
+pub enum Mark {
+    Otr1,
+    Otr2,
+    Otr3,
 }
 
-// 0 for "Fewer than four bytes, or another mark."
-pub fn edition(sheet: &[u8]) -> u32
-    ensures { result ≡ edition sheet.now }
+// None for "Fewer than four bytes, or another mark."
+pub fn edition(sheet: &[u8]) -> Option<Mark>
+    ensures { mark_says result ≡ Document.edition sheet.now }
 {
-    if starts_with(sheet, b"OTR1") {
-        return 1;
+    if sheet.starts_with(b"OTR1") {
+        return Some(Mark::Otr1);
     }
-    if starts_with(sheet, b"OTR2") {
-        return 2;
+    if sheet.starts_with(b"OTR2") {
+        return Some(Mark::Otr2);
     }
-    if starts_with(sheet, b"OTR3") {
-        return 3;
+    if sheet.starts_with(b"OTR3") {
+        return Some(Mark::Otr3);
     }
-    0
+    None
 }
 
-// The reaches, of the same width in every edition so far.
-pub fn reach_section(edition: u32) -> Section
-    ensures { (section_says result ≡ reach_section edition) × (result.width < 32) }
+// How many sections the sheet has: from the third edition on one more for each reach.
+pub fn section_count(sheet: &[u8]) -> usize
+    ensures { (result ≡ length (sections sheet.now)) × (result ≤ 4 + reach_count sheet.now) }
 {
-    REACHES
+    match edition(sheet) {
+        None => 3,
+        Some(Mark::Otr1) => 3,
+        Some(Mark::Otr2) => 4,
+        Some(Mark::Otr3) => 4 + reach_count(sheet) as usize,
+    }
 }
 
-// How many sections a sheet of this edition has: from the third on one more for each reach.
-pub fn section_count(edition: u32, reaches: u32) -> usize
-    ensures { ((s : List ℕ) → Document.edition s ≡ edition → reach_count s ≡ reaches → result ≡ length (sections s)) × (result ≤ 4 + reaches) }
-{
-    if edition < 2 {
-        return 3;
-    }
-    if edition < 3 {
-        return 4;
-    }
-    4 + reaches as usize
-}
-
-// Section k of them.
-pub fn section_of(edition: u32, k: usize) -> Section
-    ensures { ((s : List ℕ) → Document.edition s ≡ edition → k < length (sections s) → section_says result ≡ get_or (sections s) k band_section)
-        × (result.width < 32) }
+// Section k of a sheet that has it.
+// k is a place in the sheet's order; a table in place of the `match` was tried, and asks more proof for the same text.
+pub fn section_of(k: usize) -> Section
+    ensures { ((s : List ℕ) → k < length (sections s) → section_says result ≡ get_or (sections s) k band_section) × (result.width < 32) }
 {
     match k {
-        0 => reach_section(edition),
+        0 => REACHES,
         1 => ROWS,
         2 => GAUGES,
         3 => FLOW_ROWS,

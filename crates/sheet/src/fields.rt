@@ -1,5 +1,5 @@
 // A sheet's fields, read where the documents put them. Bytes past the end count as 0, so that every reading is defined for every sheet.
-ghost use Rattle.std.specs.Prelude.{◌≡◌, true, ◌+◌, ◌*◌, ◌^◌, ◌<◌, leb, get_or};
+ghost use Rattle.std.specs.Prelude.{◌≡◌, ℕ, true, ◌+◌, ◌*◌, ◌^◌, ◌<◌, leb, get_or};
 ghost use Rattle.model.specs.Ranges.{reach_section, row_section, gauge_section};
 ghost use Rattle.model.specs.Sheet as Document;
 ghost use Rattle.model.specs.Sheet.{flow_row_count_at, flow_row_count, flow_row_start, flow_row_top, band_count_at};
@@ -10,56 +10,49 @@ ghost use Rattle.model.specs.Sheet.{reach_count_at, row_count_at, gauge_count_at
 ghost use Rattle.terms.specs.Says.{reach_says};
 ghost use Rattle.limits.specs.Says.{section_says};
 
-use crate::editions::{edition, reach_section};
-use crate::layout::{REACH_COUNT_AT, SIZE, product, section_end, sum};
-use limits::{FLOW_ROWS, GAUGES, ROWS, Section};
+use crate::editions::{Mark, edition};
+use crate::layout::{REACH_COUNT_AT, SIZE, section_end};
+use limits::{FLOW_ROWS, GAUGES, REACHES, ROWS, Section};
 use terms::Reach;
 
 // One byte, of a place past the end 0.
 fn byte(sheet: &[u8], at: usize) -> u8
     ensures { result ≡ get_or sheet.now at 0 }
 {
-    if at < sheet.len() { sheet[at] } else { 0 }
-}
-
-// Four bytes, little-endian.
-fn word(a: u8, b: u8, c: u8, d: u8) -> u32
-    ensures { result ≡ a + 256 * b + 65536 * c + 16777216 * d }
-{
-    (a as u32) + 256 * (b as u32) + 65536 * (c as u32) + 16777216 * (d as u32)
+    sheet.get(at).copied().unwrap_or(0)
 }
 
 // "All fields are unsigned 32-bit, little-endian": the field whose first byte is byte number `at`.
 pub fn field(sheet: &[u8], at: usize) -> u32
     ensures { result ≡ field sheet.now at }
 {
-    if sheet.len() <= at {
-        return 0;
-    }
-    if 4 <= sheet.len() - at {
-        return word(sheet[at], sheet[at + 1], sheet[at + 2], sheet[at + 3]);
-    }
-    word(
+    u32::from_le_bytes([
         byte(sheet, at),
-        byte(sheet, at + 1),
-        byte(sheet, at + 2),
-        byte(sheet, at + 3),
-    )
+        byte(sheet, at.saturating_add(1)),
+        byte(sheet, at.saturating_add(2)),
+        byte(sheet, at.saturating_add(3)),
+    ])
 }
 
 // Field k of record i of a section whose count stands at count_at.
 pub fn record_field(sheet: &[u8], count_at: usize, section: Section, i: usize, k: usize) -> u32
     ensures { result ≡ record_field sheet.now count_at (section_says section) i k }
 {
-    let before = sum(product(section.width as usize, i), k);
-    field(sheet, sum(sum(count_at, SIZE), product(SIZE, before)))
+    let before = (section.width as usize).saturating_mul(i).saturating_add(k);
+    field(
+        sheet,
+        count_at
+            .saturating_add(SIZE)
+            .saturating_add(before.saturating_mul(SIZE)),
+    )
 }
 
-// Field k of the header.
+// Field k of the header. The five readers behind it, and those of a section's fields below, differ in a number or two alone, and stay: their names are
+// the documents', which tell a caller more than a number does.
 pub fn header_field(sheet: &[u8], k: usize) -> u32
     ensures { result ≡ header_field sheet.now k }
 {
-    field(sheet, sum(SIZE, product(SIZE, k)))
+    field(sheet, k.saturating_mul(SIZE).saturating_add(SIZE))
 }
 
 pub fn dt(sheet: &[u8]) -> u32
@@ -97,7 +90,7 @@ pub fn top_flow(sheet: &[u8]) -> u32
 pub fn row_count_at(sheet: &[u8]) -> usize
     ensures { (result ≡ row_count_at sheet.now) × (result < 2 ^ 40) }
 {
-    section_end(sheet, REACH_COUNT_AT, reach_section(edition(sheet)))
+    section_end(sheet, REACH_COUNT_AT, REACHES)
 }
 
 pub fn gauge_count_at(sheet: &[u8]) -> usize
@@ -142,7 +135,7 @@ pub fn gauge_count(sheet: &[u8]) -> u32
 pub fn flow_row_count(sheet: &[u8]) -> u32
     ensures { result ≡ flow_row_count sheet.now }
 {
-    if edition(sheet) < 2 {
+    if edition(sheet) < Some(Mark::Otr2) {
         return 0;
     }
     field(sheet, flow_row_count_at(sheet))
@@ -165,40 +158,39 @@ pub fn gauges_at(sheet: &[u8]) -> usize
 pub fn flow_rows_at(sheet: &[u8]) -> usize
     ensures { result ≡ (loaded sheet.now).flow_rows_at }
 {
-    if edition(sheet) < 2 {
+    if edition(sheet) < Some(Mark::Otr2) {
         return 0;
     }
     flow_row_count_at(sheet) + SIZE
 }
 
-// Field k of reach i on a sheet of this edition; reaches, rows and gauges count from 0 here.
-pub fn reach_field(sheet: &[u8], edition: u32, i: usize, k: usize) -> u32
-    ensures { result ≡ record_field sheet.now reach_count_at (reach_section edition) i k }
+// Field k of reach i, on a sheet of any edition; reaches, rows and gauges count from 0 here.
+pub fn reach_field(sheet: &[u8], i: usize, k: usize) -> u32
+    ensures { (edition : ℕ) → result ≡ record_field sheet.now reach_count_at (reach_section edition) i k }
 {
-    record_field(sheet, REACH_COUNT_AT, reach_section(edition), i, k)
+    record_field(sheet, REACH_COUNT_AT, REACHES, i, k)
 }
 
 pub fn reach(sheet: &[u8], i: usize) -> Reach
     ensures { reach_says result ≡ reach_on sheet.now i }
 {
-    let edition = edition(sheet);
     Reach {
-        segments: reach_field(sheet, edition, i, 0),
-        dispersion: reach_field(sheet, edition, i, 1),
-        area: reach_field(sheet, edition, i, 2),
-        area2: reach_field(sheet, edition, i, 3),
-        alpha: reach_field(sheet, edition, i, 4),
-        qin: reach_field(sheet, edition, i, 5),
-        qout: reach_field(sheet, edition, i, 6),
-        cl: reach_field(sheet, edition, i, 7),
-        lambda: reach_field(sheet, edition, i, 8),
-        lambda2: reach_field(sheet, edition, i, 9),
-        lamhat: reach_field(sheet, edition, i, 10),
-        lamhat2: reach_field(sheet, edition, i, 11),
-        rho: reach_field(sheet, edition, i, 12),
-        kd: reach_field(sheet, edition, i, 13),
-        cb: reach_field(sheet, edition, i, 14),
-        start: reach_field(sheet, edition, i, 15),
+        segments: reach_field(sheet, i, 0),
+        dispersion: reach_field(sheet, i, 1),
+        area: reach_field(sheet, i, 2),
+        area2: reach_field(sheet, i, 3),
+        alpha: reach_field(sheet, i, 4),
+        qin: reach_field(sheet, i, 5),
+        qout: reach_field(sheet, i, 6),
+        cl: reach_field(sheet, i, 7),
+        lambda: reach_field(sheet, i, 8),
+        lambda2: reach_field(sheet, i, 9),
+        lamhat: reach_field(sheet, i, 10),
+        lamhat2: reach_field(sheet, i, 11),
+        rho: reach_field(sheet, i, 12),
+        kd: reach_field(sheet, i, 13),
+        cb: reach_field(sheet, i, 14),
+        start: reach_field(sheet, i, 15),
     }
 }
 
@@ -249,30 +241,22 @@ pub fn top_of(sheet: &[u8], r: u32) -> u32
 pub fn flow_in_force(sheet: &[u8], j: u32) -> u32
     ensures { result ≡ flow_in_force sheet.now j }
 {
-    let mut r = flow_row_count(sheet);
-    while r > 0 {
+    for r in (1..=flow_row_count(sheet)).rev() {
         if flow_row_start(sheet, r as usize - 1) <= j {
             return r;
         }
-        r -= 1;
     }
     0
 }
 
-// The segments of all reaches together. A reach past the sheet's end has none, so the loop may stop there.
+// The segments of all reaches together. A reach past the sheet's end has none, so the sum may stop there.
 pub fn segment_count(sheet: &[u8]) -> usize
     ensures { result ≡ segment_count sheet.now }
 {
-    let edition = edition(sheet);
-    let count = reach_count(sheet) as usize;
+    let count = (reach_count(sheet) as usize).min(sheet.len());
     let mut total: usize = 0;
-    let mut i: usize = 0;
-    while i < count {
-        if sheet.len() <= i {
-            return total;
-        }
-        total += reach_field(sheet, edition, i, 0) as usize;
-        i += 1;
+    for i in 0..count {
+        total += reach_field(sheet, i, 0) as usize;
     }
     total
 }

@@ -1,5 +1,5 @@
 // Where things stand on a sheet. No slice reaches the highest usize, so a position that is not below it counts as that one: either is past the end.
-ghost use Rattle.std.specs.Prelude.{◌≡◌, ◌+◌, ◌*◌, ◌-◌, ◌^◌, ◌<◌, min};
+ghost use Rattle.std.specs.Prelude.{◌≡◌, ◌+◌, ◌^◌, ◌<◌};
 ghost use Rattle.model.specs.Sheet.{section_end};
 ghost use Rattle.limits.specs.Says.{section_says};
 
@@ -20,24 +20,6 @@ pub const LONGEST: usize = REACH_COUNT_AT
     + SIZE * (1 + (GAUGES.width * GAUGES.counts.high) as usize)
     + SIZE * (1 + (FLOW_ROWS.width * FLOW_ROWS.counts.high) as usize)
     + SIZE * (REACHES.counts.high * (1 + BANDS.width * BANDS.counts.high)) as usize;
-
-// As far as a position can be.
-const FAR: usize = usize::MAX;
-
-pub fn sum(a: usize, b: usize) -> usize
-    ensures { result ≡ min (a + b) (2 ^ 64 - 1) }
-{
-    if FAR - a < b { FAR } else { a + b }
-}
-
-pub fn product(a: usize, b: usize) -> usize
-    ensures { result ≡ min (a * b) (2 ^ 64 - 1) }
-{
-    if b == 0 {
-        return 0;
-    }
-    if FAR / b < a { FAR } else { a * b }
-}
 
 // Where a section ends whose count stands at `at`.
 pub fn section_end(sheet: &[u8], at: usize, section: Section) -> usize

@@ -1,24 +1,23 @@
 -- The loop of the downward pass: what it has written before segment i, and what a turn asks and leaves.
 use mathlib.Core.Path.{◌≡◌, refl, sym, ap, ◌∙◌}
 use mathlib.Core.Bool.{Bool, true, false, cond}
-use mathlib.Core.List.{List}
 use Prim.Native.Nat.{ℕ, zero, suc, ◌+◌, ◌<◌, ◌≤◌, zero-le}
 use native.Mathlib.Numerals.{add-one}
 use native.Mathlib.Omega.{arith}
 use borrow.Author.Tests.{ltb-true}
 use lib.Dec.{ltb}
-use lib.ListN.{length, get_or, set}
+use lib.ListN.{get_or, set}
 use Rattle.model.specs.Ranges.{highest}
 use Rattle.model.specs.Equations.{Figures, Pair}
 use Rattle.model.specs.Sweep.{row_of, Passed, Above, under, pass, downward}
 use Rattle.model.specs.State.{NumberSet, Columns, pair_at, pairs_of, State, figures_at, figures_of}
 use Rattle.model.specs.Calls.{Working}
 use Rattle.sweep_laws.specs.Stable.{p_above, y_above, Stable}
-use Rattle.sweep_laws.proofs.Passes.{pass_same, top-stable, kept}
+use Rattle.sweep_laws.proofs.Passes.{pass_same, kept}
 use Rattle.segment.specs.Ready.{RowReady, SegmentReady}
 use Rattle.sweep.specs.Step.{Ready, PassedOver}
 use Rattle.segment.proofs.Bounds.{ready-fit}
-use Rattle.sweep.proofs.Tables.{over-tab, Filled, filled-start, filled-turn}
+use Rattle.sweep.proofs.Tables.{over-tab, Filled, filled-turn}
 use Rattle.sweep.proofs.River.{above_at, channel_or0, standing, left_at, row_at, downward-tab}
 
 -- the figures of segment i, as the loop reads them
@@ -30,13 +29,13 @@ abbrev counted : Above → Passed
 counted above = record { p = p_above above; y = y_above above }
 
 -- segments 1 to i are done: `above` and d are what stands above the next
-pub record Down (n : ℕ) (old : NumberSet) (new : Columns) (state : State) (working : Working) (u' i above : ℕ) (d : Passed) (p y : List ℕ) : Type 0 where
+pub record Down (n : ℕ) (old : NumberSet) (new : Columns) (state : State) (working : Working) (u' i above : ℕ) (d : Passed) (after : Working) : Type 0 where
   pub reached : i ≤ n
   pub is_above : above ≡ above_at state.upstream (figures_at state) i
   pub is_d : d ≡ counted (standing (row_at n old new state) u' i)
   pub stable : Stable (standing (row_at n old new state) u' i)
-  pub in_p : Filled (λ j. (left_at (row_at n old new state) u' j).p) working.p i p
-  pub in_y : Filled (λ j. (left_at (row_at n old new state) u' j).y) working.y i y
+  pub in_p : Filled (λ j. (left_at (row_at n old new state) u' j).p) working.p i after.p
+  pub in_y : Filled (λ j. (left_at (row_at n old new state) u' j).y) working.y i after.y
 
 module _ {n : ℕ} {old : NumberSet} {new : Columns} {state : State} {working : Working} {u' : ℕ} (ready : Ready n old new state working u') where
   above_most : (i : ℕ) → i < n → above_at state.upstream (figures_at state) i ≤ highest
@@ -53,22 +52,7 @@ module _ {n : ℕ} {old : NumberSet} {new : Columns} {state : State} {working : 
   pub row-ready : (i : ℕ) → i < n → RowReady (pair_at old new i) (figures_at state i) (above_at state.upstream (figures_at state) i) (channel_or0 n (figures_at state) (suc i))
   row-ready i h = record { figures = record { accepted = ready.accepted i h; most = ready.most i h }; most_above = above_most i h; most_below = below-most (suc i) }
 
-  -- where a turn writes
-  pub down-inside : {i above : ℕ} {d : Passed} {p y : List ℕ} → i < n → Down n old new state working u' i above d p y → (i < 1024) × (i < length p) × (i < length y)
-  down-inside h v =
-      (omega (arith, ready.pairs.few), omega (arith, ready.p_long, v.in_p.long), omega (arith, ready.y_long, v.in_y.long))
-
-  pub down-start : Down n old new state working u' 0 state.upstream (record { p = 0; y = u' }) working.p working.y
-  down-start = record {
-    reached = omega arith;
-    is_above = refl;
-    is_d = refl;
-    stable = top-stable u' (omega (arith, ready.most_u'));
-    in_p = filled-start;
-    in_y = filled-start;
-  }
-
-  module _ {i above below : ℕ} {x : Pair} {d : Passed} {p y : List ℕ} (h : i < n) (v : Down n old new state working u' i above d p y)
+  module _ {i above below : ℕ} {x : Pair} {d : Passed} {after : Working} (h : i < n) (v : Down n old new state working u' i above d after)
       (q : x ≡ pair_at old new i) (b : below ≡ cond (ltb (i + 1) n) (get_or state.channel (i + 1) 0) 0) where
     pub down-ready : SegmentReady x (figures_read state i) above below d
     unfolding figures_at
@@ -84,7 +68,7 @@ module _ {n : ℕ} {old : NumberSet} {new : Columns} {state : State} {working : 
     row_same = rw (q, v.is_above, b, add-one i)
 
     pub down_turn : {d' : Passed} → d' ≡ pass (under d) (row_of x above below (figures_read state i)) →
-        Down n old new state working u' (i + 1) (get_or state.channel i 0) d' (set p i d'.p) (set y i d'.y)
+        Down n old new state working u' (i + 1) (get_or state.channel i 0) d' (record { p = set after.p i d'.p; y = set after.y i d'.y })
     unfolding figures_at
     down_turn {d'} e =
         let row = row_at n old new state in
@@ -98,8 +82,8 @@ module _ {n : ℕ} {old : NumberSet} {new : Columns} {state : State} {working : 
           in_y = rw (add-one i) at (filled-turn (omega (arith, ready.y_long)) v.in_y (ap (λ (d : Passed). d.y) is));
         })
 
-  pub down-end : {i above : ℕ} {d : Passed} {p y : List ℕ} → n ≤ i → Down n old new state working u' i above d p y →
-      PassedOver (downward state.upstream u' (pairs_of n old new) (figures_of n state)) working p y
+  pub down-end : {i above : ℕ} {d : Passed} {after : Working} → n ≤ i → Down n old new state working u' i above d after →
+      PassedOver (downward state.upstream u' (pairs_of n old new) (figures_of n state)) working after
   down-end {i} h v =
       let e : i ≡ n = omega (arith, v.reached) in
       rw (downward-tab n old new state u')

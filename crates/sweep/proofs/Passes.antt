@@ -1,7 +1,7 @@
 -- The two passes together: what the downward pass leaves is what the upward pass asks, and both are the step of document 01.
 use mathlib.Core.Path.{◌≡◌, sym, ◌∙◌}
 use mathlib.Core.List.{List, ◌++◌}
-use Prim.Native.Nat.{ℕ, zero, suc, ◌+◌, ◌<◌, ◌≤◌}
+use Prim.Native.Nat.{ℕ, zero, suc, ◌<◌, ◌≤◌}
 use native.Mathlib.Omega.{arith}
 use lib.ListN.{length, drop, length-append}
 use Rattle.lists.specs.Lists.{tab}
@@ -10,8 +10,7 @@ use Rattle.model.specs.State.{NumberSet, Columns, pairs_of, State, figures_at, f
 use Rattle.model.specs.Calls.{Working}
 use Rattle.sweep_laws.specs.Stable.{Stable}
 use Rattle.sweep_laws.proofs.Passes.{top-stable, kept}
-use Rattle.lists.specs.Lent.{plain}
-use Rattle.terms.specs.Lent.{state as state_of, working as working_of}
+use Rattle.terms.specs.Lent.{state as state_of}
 use Rattle.sweep.specs.Step.{passed_at, passed_of, Ready, UpReady, FiguresOver, PassedOver, Stepped}
 use Rattle.segment.proofs.Bounds.{ready-fit}
 use Rattle.sweep.proofs.Tables.{length-tab, tab-same, over-tab, get_or-table}
@@ -24,21 +23,21 @@ module _ {n : ℕ} {old : NumberSet} {new : Columns} {state : State} {working : 
   standing-stable zero h = top-stable u' (omega (arith, ready.most_u'))
   standing-stable (suc i) h = (kept _ _ (ready-fit (row-ready ready i h)) (standing-stable i (omega arith))).stable
 
-  module _ {p y : List ℕ} (passes : PassedOver (downward state.upstream u' (pairs_of n old new) (figures_of n state)) working p y) where
+  module _ {passed : Working} (passes : PassedOver (downward state.upstream u' (pairs_of n old new) (figures_of n state)) working passed) where
     -- p and y as tables
-    p-is : p ≡ tab 0 n (λ i. (left_at (row_at n old new state) u' i).p) ++ drop n working.p
+    p-is : passed.p ≡ tab 0 n (λ i. (left_at (row_at n old new state) u' i).p) ++ drop n working.p
     p-is = (rw (downward-tab n old new state u') at passes.of_p) ∙ over-tab (λ (x : Passed). x.p) n _ working.p
 
-    y-is : y ≡ tab 0 n (λ i. (left_at (row_at n old new state) u' i).y) ++ drop n working.y
+    y-is : passed.y ≡ tab 0 n (λ i. (left_at (row_at n old new state) u' i).y) ++ drop n working.y
     y-is = (rw (downward-tab n old new state u') at passes.of_y) ∙ over-tab (λ (x : Passed). x.y) n _ working.y
 
-    passed-at : (i : ℕ) → i < n → passed_at (working_of plain p y) i ≡ left_at (row_at n old new state) u' i
+    passed-at : (i : ℕ) → i < n → passed_at passed i ≡ left_at (row_at n old new state) u' i
     passed-at i h = rw (p-is, y-is, get_or-table (λ j. (left_at (row_at n old new state) u' j).p) n (drop n working.p) i h, get_or-table (λ j. (left_at (row_at n old new state) u' j).y) n (drop n working.y) i h)
 
-    passed-all : passed_of n (working_of plain p y) ≡ downward state.upstream u' (pairs_of n old new) (figures_of n state)
+    passed-all : passed_of n passed ≡ downward state.upstream u' (pairs_of n old new) (figures_of n state)
     passed-all = tab-same 0 n _ (left_at (row_at n old new state) u') (λ i h. passed-at i (omega arith)) ∙ sym (downward-tab n old new state u')
 
-    pub up-ready : UpReady n old new (state_of plain state.channel state.storage state.sediment 0 0) (working_of plain p y)
+    pub up-ready : UpReady n old new (state_of state.channel state.storage state.sediment 0 0) passed
     unfolding figures_at
     up-ready = record {
       pairs = ready.pairs;
@@ -53,10 +52,10 @@ module _ {n : ℕ} {old : NumberSet} {new : Columns} {state : State} {working : 
         long f more e = rw e (omega (arith, length-append (tab 0 n f) more, length-tab 0 n f))
 
     -- U and the count take no part in the figures
-    pub step_end : {channel storage sediment : List ℕ} →
-        FiguresOver (finish (pairs_of n old new) (figures_of n (state_of plain state.channel state.storage state.sediment 0 0)) (up (passed_of n (working_of plain p y))))
-        (state_of plain state.channel state.storage state.sediment 0 0) channel storage sediment →
-        Stepped n old new state working u' channel storage sediment p y
+    pub step_end : {after : State} →
+        FiguresOver (finish (pairs_of n old new) (figures_of n (state_of state.channel state.storage state.sediment 0 0)) (up (passed_of n passed)))
+        (state_of state.channel state.storage state.sediment 0 0) after →
+        Stepped n old new state working u' after passed
     unfolding stepped figures_at
     step_end raised = record {
       state_after = rw (← passed-all) (record { of_channel = raised.of_channel; of_storage = raised.of_storage; of_sediment = raised.of_sediment });

@@ -64,9 +64,6 @@ downward-tab n old new state u' =
 abbrev pub raised_at : (ℕ → Passed) → (n i : ℕ) → ℕ
 raised_at d n i = first (up (tab i (n - i) d))
 
-pub raised-end : (d : ℕ → Passed) (n : ℕ) → raised_at d n n ≡ 0
-raised-end d n = let e : n - n ≡ 0 = omega arith in rw e
-
 pub raised-turn : (d : ℕ → Passed) (n i : ℕ) → i < n → raised_at d n i ≡ (d i).y + nearest ((d i).p * raised_at d n (suc i)) S
 raised-turn d n i h = let e : n - i ≡ suc (n - suc i) = omega arith in rw e (on_top-same (d i) (up (tab (suc i) (n - suc i) d)))
 

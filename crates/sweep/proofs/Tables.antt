@@ -2,10 +2,10 @@
 use mathlib.Core.Path.{◌≡◌, refl, sym, ap, ap₂, ◌∙◌}
 use mathlib.Core.List.{List, [], ◌∷◌, ◌++◌, map, append_assoc}
 use Prim.Native.Nat.{ℕ, zero, suc, ◌+◌, ◌-◌, ◌<◌, ◌≤◌}
-use native.Mathlib.Nat.{le_refl, zero-add, add-zero, not-suc-le-zero, le_of_suc-le-suc}
+use native.Mathlib.Nat.{zero-add, add-zero, not-suc-le-zero, le_of_suc-le-suc}
 use native.Mathlib.Numerals.{add-one}
 use native.Mathlib.Omega.{arith}
-use lib.ListN.{length, get_or, take, drop, set, length-set, length-take, take-append-drop, get_or-append}
+use lib.ListN.{length, get_or, take, drop, set, length-set, get_or-append}
 use lib.Seq.{drop-cons, take-suc, set_at, get_or-take, length-take-le}
 use Rattle.lists.specs.Lists.{tab, over}
 
@@ -49,9 +49,6 @@ pub record Filled (f : ℕ → ℕ) (before : List ℕ) (i : ℕ) (after : List 
   pub is : after ≡ tab 0 i f ++ drop i before
   pub long : length after ≡ length before
 
-pub filled-start : {f : ℕ → ℕ} {before : List ℕ} → Filled f before 0 before
-filled-start = record { is = refl; long = refl }
-
 pub filled-turn : {f : ℕ → ℕ} {before after : List ℕ} {i v : ℕ} → i < length before → Filled f before i after → v ≡ f i →
     Filled f before (i + 1) (set after i v)
 filled-turn {f} {before} {after} {i} {v} h r e = record { is = rw (add-one i) more; long = length-set after i v ∙ r.long }
@@ -70,11 +67,6 @@ filled-turn {f} {before} {after} {i} {v} h r e = record { is = rw (add-one i) mo
 pub record FilledFrom (f : ℕ → ℕ) (before : List ℕ) (n i : ℕ) (after : List ℕ) : Type 0 where
   pub is : after ≡ take i before ++ (tab i (n - i) f ++ drop n before)
   pub long : length after ≡ length before
-
-pub from_start : {f : ℕ → ℕ} {before : List ℕ} {n : ℕ} → FilledFrom f before n n before
-from_start {f} {before} {n} =
-    let e : n - n ≡ 0 = omega arith in
-    record { is = rw e (sym (take-append-drop n before)); long = refl }
 
 -- an entry that is not written yet
 pub from-here : {f : ℕ → ℕ} {before after : List ℕ} {n i : ℕ} (j : ℕ) → j < i → i ≤ n → n ≤ length before → FilledFrom f before n i after →

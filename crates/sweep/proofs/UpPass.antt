@@ -1,18 +1,17 @@
 -- The loop of the upward pass: what it has written from segment i on, and what a turn asks and leaves.
 use mathlib.Core.Path.{◌≡◌, sym, ap, ◌∙◌}
-use mathlib.Core.List.{List}
-use Prim.Native.Nat.{ℕ, suc, ◌+◌, ◌-◌, ◌*◌, ◌<◌, ◌≤◌, zero-le}
+use Prim.Native.Nat.{ℕ, suc, ◌+◌, ◌-◌, ◌*◌, ◌<◌, ◌≤◌}
 use native.Mathlib.Omega.{arith}
-use lib.ListN.{length, get_or, set}
+use lib.ListN.{get_or, set}
 use Rattle.rounding.specs.Nearest.{S, nearest}
 use Rattle.model.specs.Equations.{Figures, Pair}
 use Rattle.model.specs.Sweep.{up, clamp, finish, new_figures}
 use Rattle.model.specs.State.{NumberSet, Columns, pair_at, pairs_of, State, figures_at, figures_of}
 use Rattle.model.specs.Calls.{Working}
-use Rattle.segment.specs.Ready.{RaiseReady, FiguresReady}
+use Rattle.segment.specs.Ready.{FiguresReady}
 use Rattle.sweep.specs.Step.{passed_at, passed_of, UpReady, FiguresOver}
-use Rattle.sweep.proofs.Tables.{over-tab, FilledFrom, from_start, from-here, from-turn, from_end}
-use Rattle.sweep.proofs.River.{raised_at, raised-end, raised-turn, finish-tab}
+use Rattle.sweep.proofs.Tables.{over-tab, FilledFrom, from-here, from-turn, from_end}
+use Rattle.sweep.proofs.River.{raised_at, raised-turn, finish-tab}
 
 abbrev figures : (c z w : ℕ) → Figures
 figures c z w = record { c = c; z = z; w = w }
@@ -22,64 +21,36 @@ abbrev new_at : ℕ → NumberSet → Columns → State → Working → ℕ → 
 new_at n old new state working i = new_figures (pair_at old new i) (figures_at state i) (clamp (raised_at (passed_at working) n i))
 
 -- the segments from i on are done, and x is the uncut C' of segment i
-pub record Up (n : ℕ) (old : NumberSet) (new : Columns) (state : State) (working : Working) (i x : ℕ) (channel storage sediment : List ℕ) : Type 0 where
+pub record Up (n : ℕ) (old : NumberSet) (new : Columns) (state : State) (working : Working) (i x : ℕ) (after : State) : Type 0 where
   pub reached : i ≤ n
   pub is_x : x ≡ raised_at (passed_at working) n i
   pub most_x : x ≤ S
-  pub in_channel : FilledFrom (λ j. (new_at n old new state working j).c) state.channel n i channel
-  pub in_storage : FilledFrom (λ j. (new_at n old new state working j).z) state.storage n i storage
-  pub in_sediment : FilledFrom (λ j. (new_at n old new state working j).w) state.sediment n i sediment
-
--- where a turn reads and writes
-pub record Inside (n : ℕ) (P Y : List ℕ) (i : ℕ) (C Z W : List ℕ) : Type 0 where
-  pub few : i - 1 < 1024
-  pub less : i - 1 < n
-  pub p : i - 1 < length P
-  pub y : i - 1 < length Y
-  pub channel : i - 1 < length C
-  pub storage : i - 1 < length Z
-  pub sediment : i - 1 < length W
+  pub in_channel : FilledFrom (λ j. (new_at n old new state working j).c) state.channel n i after.channel
+  pub in_storage : FilledFrom (λ j. (new_at n old new state working j).z) state.storage n i after.storage
+  pub in_sediment : FilledFrom (λ j. (new_at n old new state working j).w) state.sediment n i after.sediment
 
 module _ {n : ℕ} {old : NumberSet} {new : Columns} {state : State} {working : Working} (ready : UpReady n old new state working) where
-  pub up_start : Up n old new state working n 0 state.channel state.storage state.sediment
-  up_start = record {
-    reached = omega arith;
-    is_x = sym (raised-end (passed_at working) n);
-    most_x = zero-le;
-    in_channel = from_start;
-    in_storage = from_start;
-    in_sediment = from_start;
-  }
-
-  module _ {i x : ℕ} {channel storage sediment : List ℕ} (pos : 0 < i) (v : Up n old new state working i x channel storage sediment) where
-    pub up-inside : Inside n working.p working.y i channel storage sediment
-    up-inside = record {
-      few = omega (arith, ready.pairs.few, v.reached);
-      less = omega (arith, v.reached);
-      p = omega (arith, ready.p_long, v.reached);
-      y = omega (arith, ready.y_long, v.reached);
-      channel = omega (arith, ready.figures.channel, v.reached, v.in_channel.long);
-      storage = omega (arith, ready.figures.storage, v.reached, v.in_storage.long);
-      sediment = omega (arith, ready.figures.sediment, v.reached, v.in_sediment.long);
-    }
-
-    pub raise-ready : RaiseReady (passed_at working (i - 1)) x
-    raise-ready = record { stable = ready.stable (i - 1) (omega (arith, v.reached)); most_below = v.most_x }
-
+  module _ {i x : ℕ} {after : State} (pos : 0 < i) (v : Up n old new state working i x after) where
     -- the figures that a turn reads are the old ones
-    here : figures (get_or channel (i - 1) 0) (get_or storage (i - 1) 0) (get_or sediment (i - 1) 0) ≡ figures_at state (i - 1)
+    here : figures (get_or after.channel (i - 1) 0) (get_or after.storage (i - 1) 0) (get_or after.sediment (i - 1) 0) ≡ figures_at state (i - 1)
     unfolding figures_at
     here =
         let less : i - 1 < i = omega arith in
         rw (from-here (i - 1) less v.reached ready.figures.channel v.in_channel, from-here (i - 1) less v.reached ready.figures.storage v.in_storage, from-here (i - 1) less v.reached ready.figures.sediment v.in_sediment)
 
     module _ {x₀ : Pair} (q : x₀ ≡ pair_at old new (i - 1)) where
-      pub figures-ready : FiguresReady x₀ (figures (get_or channel (i - 1) 0) (get_or storage (i - 1) 0) (get_or sediment (i - 1) 0))
+      pub figures-ready : FiguresReady x₀ (figures (get_or after.channel (i - 1) 0) (get_or after.storage (i - 1) 0) (get_or after.sediment (i - 1) 0))
       figures-ready = rw (q, here) (ready.accepted (i - 1) (omega (arith, v.reached)))
 
       pub up_turn : {x' : ℕ} {f : Figures} → x' ≡ get_or working.y (i - 1) 0 + nearest (get_or working.p (i - 1) 0 * x) S → x' ≤ S →
-          f ≡ new_figures x₀ (figures (get_or channel (i - 1) 0) (get_or storage (i - 1) 0) (get_or sediment (i - 1) 0)) (clamp x') →
-          Up n old new state working (i - 1) x' (set channel (i - 1) f.c) (set storage (i - 1) f.z) (set sediment (i - 1) f.w)
+          f ≡ new_figures x₀ (figures (get_or after.channel (i - 1) 0) (get_or after.storage (i - 1) 0) (get_or after.sediment (i - 1) 0)) (clamp x') →
+          Up n old new state working (i - 1) x' (record {
+            channel = set after.channel (i - 1) f.c;
+            storage = set after.storage (i - 1) f.z;
+            sediment = set after.sediment (i - 1) f.w;
+            upstream = after.upstream;
+            steps = after.steps;
+          })
       up_turn {x'} {f} ex less ef =
           let up1 : suc (i - 1) ≡ i = omega arith in
           let is_x : x' ≡ raised_at (passed_at working) n (i - 1) = ex ∙ rw (raised-turn (passed_at working) n (i - 1) (omega (arith, v.reached)), up1, v.is_x) in
@@ -93,8 +64,8 @@ module _ {n : ℕ} {old : NumberSet} {new : Columns} {state : State} {working : 
             in_sediment = from-turn i pos v.reached ready.figures.sediment v.in_sediment (ap (λ (f : Figures). f.w) is);
           }
 
-  pub up-end : {i x : ℕ} {channel storage sediment : List ℕ} → i ≤ 0 → Up n old new state working i x channel storage sediment →
-      FiguresOver (finish (pairs_of n old new) (figures_of n state) (up (passed_of n working))) state channel storage sediment
+  pub up-end : {i x : ℕ} {after : State} → i ≤ 0 → Up n old new state working i x after →
+      FiguresOver (finish (pairs_of n old new) (figures_of n state) (up (passed_of n working))) state after
   up-end {i} o v =
       let zero-i : i ≡ 0 = omega arith in
       rw (finish-tab (pair_at old new) (figures_at state) (passed_at working) n 0 n (omega arith))

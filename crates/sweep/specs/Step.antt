@@ -47,18 +47,18 @@ pub record UpReady (n : ℕ) (old : NumberSet) (new : Columns) (state : State) (
   pub accepted : (i : ℕ) → i < n → FiguresReady (pair_at old new i) (figures_at state i)
   pub stable : (i : ℕ) → i < n → Stable (under (passed_at working i))
 
--- the lists of the state with these figures over their first entries
-pub record FiguresOver (figures : List Figures) (before : State) (channel storage sediment : List ℕ) : Type 0 where
-  pub of_channel : channel ≡ over (map (λ x. x.c) figures) before.channel
-  pub of_storage : storage ≡ over (map (λ x. x.z) figures) before.storage
-  pub of_sediment : sediment ≡ over (map (λ x. x.w) figures) before.sediment
+-- the state with these figures over the first entries of its lists
+pub record FiguresOver (figures : List Figures) (before after : State) : Type 0 where
+  pub of_channel : after.channel ≡ over (map (λ x. x.c) figures) before.channel
+  pub of_storage : after.storage ≡ over (map (λ x. x.z) figures) before.storage
+  pub of_sediment : after.sediment ≡ over (map (λ x. x.w) figures) before.sediment
 
 -- the working lists with these p and y over their first entries
-pub record PassedOver (passed : List Passed) (before : Working) (p y : List ℕ) : Type 0 where
-  pub of_p : p ≡ over (map (λ x. x.p) passed) before.p
-  pub of_y : y ≡ over (map (λ x. x.y) passed) before.y
+pub record PassedOver (passed : List Passed) (before after : Working) : Type 0 where
+  pub of_p : after.p ≡ over (map (λ x. x.p) passed) before.p
+  pub of_y : after.y ≡ over (map (λ x. x.y) passed) before.y
 
 -- what a step leaves: the new figures in the state, p and y of the downward pass in the working lists
-pub record Stepped (n : ℕ) (old : NumberSet) (new : Columns) (state : State) (working : Working) (u' : ℕ) (channel storage sediment p y : List ℕ) : Type 0 where
-  pub state_after : FiguresOver (stepped state.upstream u' (pairs_of n old new) (figures_of n state)) state channel storage sediment
-  pub working_after : PassedOver (downward state.upstream u' (pairs_of n old new) (figures_of n state)) working p y
+pub record Stepped (n : ℕ) (old : NumberSet) (new : Columns) (state : State) (working : Working) (u' : ℕ) (after : State) (passed : Working) : Type 0 where
+  pub state_after : FiguresOver (stepped state.upstream u' (pairs_of n old new) (figures_of n state)) state after
+  pub working_after : PassedOver (downward state.upstream u' (pairs_of n old new) (figures_of n state)) working passed

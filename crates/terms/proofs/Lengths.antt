@@ -1,11 +1,10 @@
 -- Lists that pass test 13 have an entry for each segment, list by list.
-use mathlib.Core.Path.{◌≡◌, sym, ◌∙◌}
-use mathlib.Core.Bool.{true, false}
-use mathlib.Core.List.{List, [], ◌∷◌, ◌++◌, map}
+use mathlib.Core.Path.{◌≡◌}
+use mathlib.Core.Bool.{false}
+use mathlib.Core.List.{List, [], ◌∷◌, ◌++◌}
 use Prim.Native.Nat.{ℕ}
-use lib.ListN.{length}
-use Rattle.lists.specs.Lists.{any_shorter, any_under}
-use Rattle.lists.proofs.Shorter.{AllLong, all-long, shorter-both, under-lengths}
+use Rattle.lists.specs.Lists.{any_shorter}
+use Rattle.lists.proofs.Shorter.{AllLong, all-long}
 use Rattle.model.specs.State.{NumberSet, set_lists, Columns, column_lists}
 use Rattle.terms.specs.Lent.{LongSet, Long, LongFigures}
 
@@ -50,18 +49,3 @@ pub figures-behind : (n : ℕ) (x : Columns) (channel storage sediment : List �
 figures-behind n x channel storage sediment long =
     let figures = behind n (column_lists x) (channel ∷ storage ∷ sediment ∷ []) long in
     record { channel = figures.0; storage = figures.1.0; sediment = figures.1.1.0 }
-
--- ---- a set's lengths, five at a time
-
-module _ (n : ℕ) (x : NumberSet) where
-  abbrev front : List (List ℕ)
-  front = x.e ∷ x.g ∷ x.l ∷ x.a ∷ x.b ∷ []
-
-  abbrev back : List (List ℕ)
-  back = x.k ∷ x.ks ∷ x.h ∷ x.m ∷ x.s ∷ []
-
-  pub front-short : any_under n (map length front) ≡ true → any_shorter n (set_lists x) ≡ true
-  front-short e = shorter-both n front back ∙ rw (sym (under-lengths n front) ∙ e)
-
-  pub back-decides : any_under n (map length front) ≡ false → any_under n (map length back) ≡ any_shorter n (set_lists x)
-  back-decides e = under-lengths n back ∙ sym (shorter-both n front back ∙ rw (sym (under-lengths n front) ∙ e))

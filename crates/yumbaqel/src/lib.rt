@@ -23,7 +23,6 @@ ghost use Rattle.model.specs.OwnRiverClaim.{OwnRiverSteps, OwnRiverOnwards, OwnR
 ghost use Rattle.forecast_model.specs.Forecast.{forecast, pool_forecast};
 ghost use Rattle.forecast_model.specs.ForecastClaim.{ForecastSays, ForecastNear, PoolForecastSays};
 ghost use Rattle.terms.specs.Says.{reach_says};
-ghost use Rattle.lists.specs.Lent.{plain};
 ghost use Rattle.terms.specs.Lent.{set, columns, state, working, left, table_in, pool};
 ghost use Rattle.sheet.specs.Rows.{row_list_test, row_list_after};
 ghost use Rattle.otis.specs.Outcomes.{handed};
@@ -31,13 +30,11 @@ ghost use Rattle.forecast.specs.Says.{question, live_river, room};
 ghost use Rattle.forecast.specs.Left.{SidesLeft};
 ghost use Rattle.answers.specs.Answers.{found_by, Told, Handed, ReportHanded, loaded_values, SearchHanded, ForecastHanded};
 
-use answers::{
-    finding_of, put_finding, put_forecast, put_load, put_report, put_river, put_search,
-    put_upstream,
-};
+use answers::{Verdict, put_forecast, put_load, put_report, put_river, put_search, put_upstream};
+use forecast::{Live, Question};
 use otis::River;
 use pool_table::Table;
-use terms::Reach;
+use terms::{Columns, ColumnsMut, Reach, Set, StateLists, StateListsMut, WorkingMut};
 
 // A loading for flow `row`, 0 for the flow at the top: tests 1 to 13 with 16 and 19 among them. `loaded` is M, the print interval, the segment count,
 // where the rows begin on the sheet and how many there are, and the same of the gauges and of the flow rows.
@@ -66,18 +63,40 @@ pub extern "C" fn yumbaqel_load(
     start: &mut [u32],
 )
     ensures answer { Told (found_by (load_answer sheet.now row (length reaches.old)
-        (columns plain e.old g.old l.old a.old b.old k.old ks.old h.old m.old s.old cl.old cb.old kd.old start.old))) number.new kind.new place.new }
+        (columns e.old g.old l.old a.old b.old k.old ks.old h.old m.old s.old cl.old cb.old kd.old start.old))) number.new kind.new place.new }
     ensures values { loaded.new ≡ handed (load_answer sheet.now row (length reaches.old)
-        (columns plain e.old g.old l.old a.old b.old k.old ks.old h.old m.old s.old cl.old cb.old kd.old start.old)) loaded_values loaded.old }
-    ensures lists { columns plain e.new g.new l.new a.new b.new k.new ks.new h.new m.new s.new cl.new cb.new kd.new start.new ≡ load_columns sheet.now row (length reaches.old)
-        (columns plain e.old g.old l.old a.old b.old k.old ks.old h.old m.old s.old cl.old cb.old kd.old start.old) }
+        (columns e.old g.old l.old a.old b.old k.old ks.old h.old m.old s.old cl.old cb.old kd.old start.old)) loaded_values loaded.old }
+    ensures lists { columns e.new g.new l.new a.new b.new k.new ks.new h.new m.new s.new cl.new cb.new kd.new start.new ≡ load_columns sheet.now row (length reaches.old)
+        (columns e.old g.old l.old a.old b.old k.old ks.old h.old m.old s.old cl.old cb.old kd.old start.old) }
     ensures records { map reach_says reaches.new ≡ load_records sheet.now row (map reach_says reaches.old)
-        (columns plain e.old g.old l.old a.old b.old k.old ks.old h.old m.old s.old cl.old cb.old kd.old start.old) }
+        (columns e.old g.old l.old a.old b.old k.old ks.old h.old m.old s.old cl.old cb.old kd.old start.old) }
 {
-    let answer = loading::load(
-        sheet, row, reaches, e, g, l, a, b, k, ks, h, m, s, cl, cb, kd, start,
+    let mut columns = ColumnsMut {
+        e,
+        g,
+        l,
+        a,
+        b,
+        k,
+        ks,
+        h,
+        m,
+        s,
+        cl,
+        cb,
+        kd,
+        start,
+    };
+    let answer = loading::load(sheet, row, reaches, &mut columns);
+    put_load(
+        answer,
+        Verdict {
+            number,
+            kind,
+            place,
+        },
+        loaded,
     );
-    put_load(answer, number, kind, place, loaded);
 }
 
 // An opening of river `river`, 1 to 8, in a pool: tests 1 to 12 with 16 and 19 among them, 17, 18 of the table, 13 and 14 of `u`, which is U at step 0. `loaded` is a loading's.
@@ -113,23 +132,59 @@ pub extern "C" fn yumbaqel_pool_open(
     u: u32,
 )
     ensures answer { Told (found_by (open_answer sheet.now row (length reaches.old)
-        (columns plain e.old g.old l.old a.old b.old k.old ks.old h.old m.old s.old cl.old cb.old kd.old start.old) (pool plain channel.old storage.old sediment.old table.old) river highest.old u)) number.new kind.new place.new }
+        (columns e.old g.old l.old a.old b.old k.old ks.old h.old m.old s.old cl.old cb.old kd.old start.old) (pool channel.old storage.old sediment.old table.old) river highest.old u)) number.new kind.new place.new }
     ensures values { loaded.new ≡ handed (open_answer sheet.now row (length reaches.old)
-        (columns plain e.old g.old l.old a.old b.old k.old ks.old h.old m.old s.old cl.old cb.old kd.old start.old) (pool plain channel.old storage.old sediment.old table.old) river highest.old u) loaded_values loaded.old }
-    ensures lists { columns plain e.new g.new l.new a.new b.new k.new ks.new h.new m.new s.new cl.new cb.new kd.new start.new ≡ open_columns sheet.now row (length reaches.old)
-        (columns plain e.old g.old l.old a.old b.old k.old ks.old h.old m.old s.old cl.old cb.old kd.old start.old) (pool plain channel.old storage.old sediment.old table.old) river highest.old u }
-    ensures pool { pool plain channel.new storage.new sediment.new table.new ≡ pool_open sheet.now row (length reaches.old)
-        (columns plain e.old g.old l.old a.old b.old k.old ks.old h.old m.old s.old cl.old cb.old kd.old start.old) (pool plain channel.old storage.old sediment.old table.old) river highest.old u }
+        (columns e.old g.old l.old a.old b.old k.old ks.old h.old m.old s.old cl.old cb.old kd.old start.old) (pool channel.old storage.old sediment.old table.old) river highest.old u) loaded_values loaded.old }
+    ensures lists { columns e.new g.new l.new a.new b.new k.new ks.new h.new m.new s.new cl.new cb.new kd.new start.new ≡ open_columns sheet.now row (length reaches.old)
+        (columns e.old g.old l.old a.old b.old k.old ks.old h.old m.old s.old cl.old cb.old kd.old start.old) (pool channel.old storage.old sediment.old table.old) river highest.old u }
+    ensures pool { pool channel.new storage.new sediment.new table.new ≡ pool_open sheet.now row (length reaches.old)
+        (columns e.old g.old l.old a.old b.old k.old ks.old h.old m.old s.old cl.old cb.old kd.old start.old) (pool channel.old storage.old sediment.old table.old) river highest.old u }
     ensures highest { highest.new ≡ open_highest sheet.now row (length reaches.old)
-        (columns plain e.old g.old l.old a.old b.old k.old ks.old h.old m.old s.old cl.old cb.old kd.old start.old) (pool plain channel.old storage.old sediment.old table.old) river highest.old u }
+        (columns e.old g.old l.old a.old b.old k.old ks.old h.old m.old s.old cl.old cb.old kd.old start.old) (pool channel.old storage.old sediment.old table.old) river highest.old u }
     ensures records { map reach_says reaches.new ≡ open_records sheet.now row (map reach_says reaches.old)
-        (columns plain e.old g.old l.old a.old b.old k.old ks.old h.old m.old s.old cl.old cb.old kd.old start.old) (pool plain channel.old storage.old sediment.old table.old) river highest.old u }
+        (columns e.old g.old l.old a.old b.old k.old ks.old h.old m.old s.old cl.old cb.old kd.old start.old) (pool channel.old storage.old sediment.old table.old) river highest.old u }
 {
+    let mut columns = ColumnsMut {
+        e,
+        g,
+        l,
+        a,
+        b,
+        k,
+        ks,
+        h,
+        m,
+        s,
+        cl,
+        cb,
+        kd,
+        start,
+    };
+    let mut shared = StateListsMut {
+        channel,
+        storage,
+        sediment,
+    };
     let answer = opening::open(
-        river, sheet, row, reaches, e, g, l, a, b, k, ks, h, m, s, cl, cb, kd, start, channel,
-        storage, sediment, highest, table, u,
+        river,
+        sheet,
+        row,
+        reaches,
+        &mut columns,
+        &mut shared,
+        highest,
+        table,
+        u,
     );
-    put_load(answer, number, kind, place, loaded);
+    put_load(
+        answer,
+        Verdict {
+            number,
+            kind,
+            place,
+        },
+        loaded,
+    );
 }
 
 // A start of n segments: tests 13 and 14. `u` is U at step 0; `upstream` and `done` are the state's U and its count of steps. `highest` has the
@@ -162,21 +217,45 @@ pub extern "C" fn yumbaqel_start<'a>(
     done: &mut u32,
     u: u32,
 )
-    ensures { Handed (call_result n (state plain channel.old storage.old sediment.old upstream.old done.old)
-        (Call.start (columns plain e.now g.now l.now a.now b.now k.now ks.now h.now m.now s.now cl.now cb.now kd.now start.now) highest.old u))
-        number.new kind.new place.new (left (state plain channel.new storage.new sediment.new upstream.new done.new) highest.new no_working) }
+    ensures { Handed (call_result n (state channel.old storage.old sediment.old upstream.old done.old)
+        (Call.start (columns e.now g.now l.now a.now b.now k.now ks.now h.now m.now s.now cl.now cb.now kd.now start.now) highest.old u))
+        number.new kind.new place.new (left (state channel.new storage.new sediment.new upstream.new done.new) highest.new no_working) }
 {
-    let answer = River::start(
-        n,
-        [e, g, l, a, b, k, ks, h, m, s],
-        [cl, cb, kd, start],
+    let numbers = Set {
+        e,
+        g,
+        l,
+        a,
+        b,
+        k,
+        ks,
+        h,
+        m,
+        s,
+    };
+    let columns = Columns {
+        numbers,
+        cl,
+        cb,
+        kd,
+        start,
+    };
+    let state = StateListsMut {
         channel,
         storage,
         sediment,
-        highest,
-        u,
+    };
+    let answer = River::start(n, columns, state, highest, u);
+    put_river(
+        answer,
+        Verdict {
+            number,
+            kind,
+            place,
+        },
+        upstream,
+        done,
     );
-    put_river(answer, number, kind, place, upstream, done);
 }
 
 // A step: tests 13 to 15. The ten lists with a 0 are the set of its old side, those behind them that of its new side; `u` is U' and `steps` is M;
@@ -222,29 +301,61 @@ pub extern "C" fn yumbaqel_step<'a>(
     u: u32,
     steps: u32,
 )
-    ensures { Handed (call_result n (state plain channel.old storage.old sediment.old upstream.old done.old)
-        (Call.step (set plain e0.now g0.now l0.now a0.now b0.now k0.now ks0.now h0.now m0.now s0.now) (columns plain e.now g.now l.now a.now b.now k.now ks.now h.now m.now s.now cl.now cb.now kd.now start.now) highest.old (working plain p.old y.old) u steps))
-        number.new kind.new place.new (left (state plain channel.new storage.new sediment.new upstream.new done.new) highest.new (working plain p.new y.new)) }
+    ensures { Handed (call_result n (state channel.old storage.old sediment.old upstream.old done.old)
+        (Call.step (set e0.now g0.now l0.now a0.now b0.now k0.now ks0.now h0.now m0.now s0.now) (columns e.now g.now l.now a.now b.now k.now ks.now h.now m.now s.now cl.now cb.now kd.now start.now) highest.old (working p.old y.old) u steps))
+        number.new kind.new place.new (left (state channel.new storage.new sediment.new upstream.new done.new) highest.new (working p.new y.new)) }
 {
     let river = River {
         upstream: *upstream,
         steps: *done,
     };
-    let answer = river.step(
-        n,
-        [e0, g0, l0, a0, b0, k0, ks0, h0, m0, s0],
-        [e, g, l, a, b, k, ks, h, m, s],
-        [cl, cb, kd, start],
+    let old = Set {
+        e: e0,
+        g: g0,
+        l: l0,
+        a: a0,
+        b: b0,
+        k: k0,
+        ks: ks0,
+        h: h0,
+        m: m0,
+        s: s0,
+    };
+    let numbers = Set {
+        e,
+        g,
+        l,
+        a,
+        b,
+        k,
+        ks,
+        h,
+        m,
+        s,
+    };
+    let new = Columns {
+        numbers,
+        cl,
+        cb,
+        kd,
+        start,
+    };
+    let state = StateListsMut {
         channel,
         storage,
         sediment,
-        highest,
-        p,
-        y,
-        u,
-        steps,
+    };
+    let answer = river.step(n, old, new, state, highest, WorkingMut { p, y }, u, steps);
+    put_river(
+        answer,
+        Verdict {
+            number,
+            kind,
+            place,
+        },
+        upstream,
+        done,
     );
-    put_river(answer, number, kind, place, upstream, done);
 }
 
 // A report of a segment, which counts from 1: tests 13 and 14. `c`, `z` and `kdw` are C, Z and Kd × W.
@@ -278,23 +389,49 @@ pub extern "C" fn yumbaqel_report<'a>(
     done: u32,
     segment: u32,
 )
-    ensures { ReportHanded (call_result n (state plain channel.now storage.now sediment.now upstream done) (Call.report (columns plain e.now g.now l.now a.now b.now k.now ks.now h.now m.now s.now cl.now cb.now kd.now start.now) segment)).answer
+    ensures { ReportHanded (call_result n (state channel.now storage.now sediment.now upstream done) (Call.report (columns e.now g.now l.now a.now b.now k.now ks.now h.now m.now s.now cl.now cb.now kd.now start.now) segment)).answer
         number.new kind.new place.new c.old z.old kdw.old c.new z.new kdw.new }
 {
     let river = River {
-        upstream: upstream,
+        upstream,
         steps: done,
     };
-    let answer = river.report(
-        n,
-        [e, g, l, a, b, k, ks, h, m, s],
-        [cl, cb, kd, start],
+    let numbers = Set {
+        e,
+        g,
+        l,
+        a,
+        b,
+        k,
+        ks,
+        h,
+        m,
+        s,
+    };
+    let columns = Columns {
+        numbers,
+        cl,
+        cb,
+        kd,
+        start,
+    };
+    let state = StateLists {
         channel,
         storage,
         sediment,
-        segment,
+    };
+    let answer = river.report(n, columns, state, segment);
+    put_report(
+        answer,
+        Verdict {
+            number,
+            kind,
+            place,
+        },
+        c,
+        z,
+        kdw,
     );
-    put_report(answer, number, kind, place, c, z, kdw);
 }
 
 // Is any of the river above the limit? 13 alone. `segment` is 0 for none, else the number of a segment that is; which one is left open.
@@ -312,7 +449,15 @@ pub extern "C" fn yumbaqel_search(
     ensures { SearchHanded (SearchAnswer n channel.now highest.now limit) number.new kind.new place.new segment.old segment.new }
 {
     let answer = search::alone(n, channel, highest, limit);
-    put_search(answer, number, kind, place, segment);
+    put_search(
+        answer,
+        Verdict {
+            number,
+            kind,
+            place,
+        },
+        segment,
+    );
 }
 
 // A forecast of n segments: the sheet's tests, 13, 14 and 20. `upstream` and `done` are the live state's U and count; what ends in 1 is the copies', `sides`
@@ -344,22 +489,59 @@ pub extern "C" fn yumbaqel_forecast(
     limit: u32,
     horizon: u32,
 )
-    ensures result { ForecastHanded (forecast sheet.now (live_river n (state plain channel.now storage.now sediment.now upstream done) highest.now)
-        (room (state plain channel1.old storage1.old sediment1.old upstream1.old done1.old) highest1.old sides.old (working plain p.old y.old)) (question gauge limit horizon))
-        number.new kind.new place.new above.old above.new (left (state plain channel1.new storage1.new sediment1.new upstream1.new done1.new) highest1.new (working plain p.new y.new)) }
-    ensures sides { SidesLeft (forecast sheet.now (live_river n (state plain channel.now storage.now sediment.now upstream done) highest.now)
-        (room (state plain channel1.old storage1.old sediment1.old upstream1.old done1.old) highest1.old sides.old (working plain p.old y.old)) (question gauge limit horizon)).answer
+    ensures result { ForecastHanded (forecast sheet.now (live_river n (state channel.now storage.now sediment.now upstream done) highest.now)
+        (room (state channel1.old storage1.old sediment1.old upstream1.old done1.old) highest1.old sides.old (working p.old y.old)) (question gauge limit horizon))
+        number.new kind.new place.new above.old above.new (left (state channel1.new storage1.new sediment1.new upstream1.new done1.new) highest1.new (working p.new y.new)) }
+    ensures sides { SidesLeft (forecast sheet.now (live_river n (state channel.now storage.now sediment.now upstream done) highest.now)
+        (room (state channel1.old storage1.old sediment1.old upstream1.old done1.old) highest1.old sides.old (working p.old y.old)) (question gauge limit horizon)).answer
         sheet.now sides.old sides.new }
 {
     let river = River {
-        upstream: upstream,
+        upstream,
         steps: done,
     };
+    let state = StateLists {
+        channel,
+        storage,
+        sediment,
+    };
+    let live = Live {
+        n,
+        river,
+        state,
+        highest,
+    };
+    let mut copies = StateListsMut {
+        channel: channel1,
+        storage: storage1,
+        sediment: sediment1,
+    };
+    let mut working = WorkingMut { p, y };
+    let asked = Question {
+        gauge,
+        limit,
+        horizon,
+    };
     let answer = forecast::alone(
-        river, n, sheet, channel, storage, sediment, highest, channel1, storage1, sediment1,
-        highest1, sides, p, y, gauge, limit, horizon,
+        sheet,
+        live,
+        &mut copies,
+        highest1,
+        sides,
+        &mut working,
+        asked,
     );
-    put_forecast(answer, number, kind, place, above, upstream1, done1);
+    put_forecast(
+        answer,
+        Verdict {
+            number,
+            kind,
+            place,
+        },
+        above,
+        upstream1,
+        done1,
+    );
 }
 
 // A start of the river that is open under this number: tests 18, 13 and 14. U and the count of steps done stand in its slot of the table.
@@ -390,21 +572,40 @@ pub extern "C" fn yumbaqel_pool_start<'a>(
     table: &mut Table,
     u: u32,
 )
-    ensures { Handed (pool_result (pool plain channel.old storage.old sediment.old table.old) river (Call.start (columns plain e.now g.now l.now a.now b.now k.now ks.now h.now m.now s.now cl.now cb.now kd.now start.now) highest.old u))
-        number.new kind.new place.new (left (pool plain channel.new storage.new sediment.new table.new) highest.new no_working) }
+    ensures { Handed (pool_result (pool channel.old storage.old sediment.old table.old) river (Call.start (columns e.now g.now l.now a.now b.now k.now ks.now h.now m.now s.now cl.now cb.now kd.now start.now) highest.old u))
+        number.new kind.new place.new (left (pool channel.new storage.new sediment.new table.new) highest.new no_working) }
 {
-    let answer = pool::start(
-        river,
-        [e, g, l, a, b, k, ks, h, m, s],
-        [cl, cb, kd, start],
+    let numbers = Set {
+        e,
+        g,
+        l,
+        a,
+        b,
+        k,
+        ks,
+        h,
+        m,
+        s,
+    };
+    let columns = Columns {
+        numbers,
+        cl,
+        cb,
+        kd,
+        start,
+    };
+    let shared = StateListsMut {
         channel,
         storage,
         sediment,
-        highest,
-        table,
-        u,
-    );
-    put_finding(finding_of(answer), number, kind, place);
+    };
+    let answer = pool::start(river, columns, shared, highest, table, u);
+    Verdict {
+        number,
+        kind,
+        place,
+    }
+    .tell(answer);
 }
 
 // A step of it: tests 18, 13, 14 and 15. The sets, `u`, `steps`, p and y are as in `yumbaqel_step`.
@@ -448,26 +649,63 @@ pub extern "C" fn yumbaqel_pool_step<'a>(
     u: u32,
     steps: u32,
 )
-    ensures { Handed (pool_result (pool plain channel.old storage.old sediment.old table.old) river
-        (Call.step (set plain e0.now g0.now l0.now a0.now b0.now k0.now ks0.now h0.now m0.now s0.now) (columns plain e.now g.now l.now a.now b.now k.now ks.now h.now m.now s.now cl.now cb.now kd.now start.now) highest.old (working plain p.old y.old) u steps))
-        number.new kind.new place.new (left (pool plain channel.new storage.new sediment.new table.new) highest.new (working plain p.new y.new)) }
+    ensures { Handed (pool_result (pool channel.old storage.old sediment.old table.old) river
+        (Call.step (set e0.now g0.now l0.now a0.now b0.now k0.now ks0.now h0.now m0.now s0.now) (columns e.now g.now l.now a.now b.now k.now ks.now h.now m.now s.now cl.now cb.now kd.now start.now) highest.old (working p.old y.old) u steps))
+        number.new kind.new place.new (left (pool channel.new storage.new sediment.new table.new) highest.new (working p.new y.new)) }
 {
-    let answer = pool::step(
-        river,
-        [e0, g0, l0, a0, b0, k0, ks0, h0, m0, s0],
-        [e, g, l, a, b, k, ks, h, m, s],
-        [cl, cb, kd, start],
+    let old = Set {
+        e: e0,
+        g: g0,
+        l: l0,
+        a: a0,
+        b: b0,
+        k: k0,
+        ks: ks0,
+        h: h0,
+        m: m0,
+        s: s0,
+    };
+    let numbers = Set {
+        e,
+        g,
+        l,
+        a,
+        b,
+        k,
+        ks,
+        h,
+        m,
+        s,
+    };
+    let new = Columns {
+        numbers,
+        cl,
+        cb,
+        kd,
+        start,
+    };
+    let shared = StateListsMut {
         channel,
         storage,
         sediment,
+    };
+    let answer = pool::step(
+        river,
+        old,
+        new,
+        shared,
         highest,
         table,
-        p,
-        y,
+        WorkingMut { p, y },
         u,
         steps,
     );
-    put_finding(finding_of(answer), number, kind, place);
+    Verdict {
+        number,
+        kind,
+        place,
+    }
+    .tell(answer);
 }
 
 // A report of a segment of it, which counts from 1: tests 18, 13 and 14. `c`, `z` and `kdw` are C, Z and Kd × W.
@@ -500,20 +738,45 @@ pub extern "C" fn yumbaqel_pool_report<'a>(
     table: &Table,
     segment: u32,
 )
-    ensures { ReportHanded (pool_result (pool plain channel.now storage.now sediment.now table.now) river (Call.report (columns plain e.now g.now l.now a.now b.now k.now ks.now h.now m.now s.now cl.now cb.now kd.now start.now) segment)).answer
+    ensures { ReportHanded (pool_result (pool channel.now storage.now sediment.now table.now) river (Call.report (columns e.now g.now l.now a.now b.now k.now ks.now h.now m.now s.now cl.now cb.now kd.now start.now) segment)).answer
         number.new kind.new place.new c.old z.old kdw.old c.new z.new kdw.new }
 {
-    let answer = pool::report(
-        river,
-        [e, g, l, a, b, k, ks, h, m, s],
-        [cl, cb, kd, start],
+    let numbers = Set {
+        e,
+        g,
+        l,
+        a,
+        b,
+        k,
+        ks,
+        h,
+        m,
+        s,
+    };
+    let columns = Columns {
+        numbers,
+        cl,
+        cb,
+        kd,
+        start,
+    };
+    let shared = StateLists {
         channel,
         storage,
         sediment,
-        table,
-        segment,
+    };
+    let answer = pool::report(river, columns, shared, table, segment);
+    put_report(
+        answer,
+        Verdict {
+            number,
+            kind,
+            place,
+        },
+        c,
+        z,
+        kdw,
     );
-    put_report(answer, number, kind, place, c, z, kdw);
 }
 
 // The search of it: 18 and 13. The channel list is the one shared list that it is lent, `highest` the river's own.
@@ -533,7 +796,15 @@ pub extern "C" fn yumbaqel_pool_search(
         segment.old segment.new }
 {
     let answer = search::on_pool(river, channel, highest, table, limit);
-    put_search(answer, number, kind, place, segment);
+    put_search(
+        answer,
+        Verdict {
+            number,
+            kind,
+            place,
+        },
+        segment,
+    );
 }
 
 // A forecast of the river that is open under this number: the sheet's tests, 18, 13, 14 and 20. The pool does not move.
@@ -563,18 +834,52 @@ pub extern "C" fn yumbaqel_pool_forecast(
     limit: u32,
     horizon: u32,
 )
-    ensures result { ForecastHanded (pool_forecast sheet.now (pool plain channel.now storage.now sediment.now table.now) river highest.now
-        (room (state plain channel1.old storage1.old sediment1.old upstream1.old done1.old) highest1.old sides.old (working plain p.old y.old)) (question gauge limit horizon))
-        number.new kind.new place.new above.old above.new (left (state plain channel1.new storage1.new sediment1.new upstream1.new done1.new) highest1.new (working plain p.new y.new)) }
-    ensures sides { SidesLeft (pool_forecast sheet.now (pool plain channel.now storage.now sediment.now table.now) river highest.now
-        (room (state plain channel1.old storage1.old sediment1.old upstream1.old done1.old) highest1.old sides.old (working plain p.old y.old)) (question gauge limit horizon)).answer
+    ensures result { ForecastHanded (pool_forecast sheet.now (pool channel.now storage.now sediment.now table.now) river highest.now
+        (room (state channel1.old storage1.old sediment1.old upstream1.old done1.old) highest1.old sides.old (working p.old y.old)) (question gauge limit horizon))
+        number.new kind.new place.new above.old above.new (left (state channel1.new storage1.new sediment1.new upstream1.new done1.new) highest1.new (working p.new y.new)) }
+    ensures sides { SidesLeft (pool_forecast sheet.now (pool channel.now storage.now sediment.now table.now) river highest.now
+        (room (state channel1.old storage1.old sediment1.old upstream1.old done1.old) highest1.old sides.old (working p.old y.old)) (question gauge limit horizon)).answer
         sheet.now sides.old sides.new }
 {
+    let shared = StateLists {
+        channel,
+        storage,
+        sediment,
+    };
+    let mut copies = StateListsMut {
+        channel: channel1,
+        storage: storage1,
+        sediment: sediment1,
+    };
+    let mut working = WorkingMut { p, y };
+    let asked = Question {
+        gauge,
+        limit,
+        horizon,
+    };
     let answer = forecast::on_pool(
-        river, sheet, channel, storage, sediment, highest, table, channel1, storage1, sediment1,
-        highest1, sides, p, y, gauge, limit, horizon,
+        river,
+        sheet,
+        shared,
+        highest,
+        table,
+        &mut copies,
+        highest1,
+        sides,
+        &mut working,
+        asked,
     );
-    put_forecast(answer, number, kind, place, above, upstream1, done1);
+    put_forecast(
+        answer,
+        Verdict {
+            number,
+            kind,
+            place,
+        },
+        above,
+        upstream1,
+        done1,
+    );
 }
 
 // A closing of it: test 18 alone. Its slot is free again, and so are its segments.
@@ -589,8 +894,12 @@ pub extern "C" fn yumbaqel_pool_close(
     ensures answer { Told (close_finding (table_in table.old) river) number.new kind.new place.new }
     ensures table { table_in table.new ≡ closed_table (table_in table.old) river }
 {
-    let found = pool::close(river, table);
-    put_finding(found, number, kind, place);
+    Verdict {
+        number,
+        kind,
+        place,
+    }
+    .tell(pool::close(river, table));
 }
 
 // U at step j of the rows, for M steps: tests 3 and 8.
@@ -609,7 +918,15 @@ pub extern "C" fn yumbaqel_upstream(
     ensures u { u.new ≡ handed (upstream_answer steps j starts.now concentrations.now) (λ v. v) u.old }
 {
     let answer = boundary::rows::upstream(starts, concentrations, steps, j);
-    put_upstream(answer, number, kind, place, u);
+    put_upstream(
+        answer,
+        Verdict {
+            number,
+            kind,
+            place,
+        },
+        u,
+    );
 }
 
 // The boundary rows of a sheet in the two lists that U is looked up in: test 13 of the lists.
@@ -628,8 +945,12 @@ pub extern "C" fn yumbaqel_rows(
     ensures concentrations { concentrations.new ≡ row_list_after (row_list_test sheet.now starts.old concentrations.old)
         (row_concentrations sheet.now) concentrations.old }
 {
-    let found = sheet::rows::copy_rows(sheet, starts, concentrations);
-    put_finding(found, number, kind, place);
+    Verdict {
+        number,
+        kind,
+        place,
+    }
+    .tell(sheet::rows::copy_rows(sheet, starts, concentrations));
 }
 
 // Gauge j of a sheet, a segment's number; j counts from 0. Bytes past the sheet's end count as 0.

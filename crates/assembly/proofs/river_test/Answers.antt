@@ -1,34 +1,22 @@
-use mathlib.Core.Path.{◌≡◌, refl, sym, ap, ◌∙◌}
-use mathlib.Core.List.{List}
-use Prim.Native.Nat.{ℕ}
-use native.Mathlib.Omega.{arith}
-use lib.ListN.{length}
-use Rattle.model.specs.Load.{sheet_tests, course_tests, river_tests}
-use Rattle.terms.specs.Says.{finding_says}
-use Rattle.sheet.proofs.Tests.{judging-start, judging-on, judging-stop, judging-end}
+use Rattle.std.proofs.lemmas.Result.{err_from_is_err_and}
+use Rattle.model.specs.Load.{sheet_tests, course_tests}
+use Rattle.course.specs.Segments.{site_fault}
+use Rattle.assembly.proofs.TestsInTurn.{past, behind, stop, last}
 use Rattle.assembly.proofs.river_test.Goals as goal
 
-length-tests : (sheet : List ℕ) → length (river_tests sheet) ≡ 13
-unfolding sheet_tests course_tests
-length-tests sheet = refl
+pub returns-in_err-flows_test : goal.returns-in_err-flows_test
+unfolding course_tests site_fault
+returns-in_err-flows_test c =
+    let p = err_from_is_err_and c.from_residual-in_err-flows_test.result c.from_residual-in_err-flows_test.ensures.1 in
+    rw (p.1, p.2) (past (sheet_tests _) _ c.in_ok-sheet_test.ensures (stop _ (rw c.segment_count-n.ensures at c.in_err-flows_test.ensures)))
 
-pub loop-k-init : goal.loop-k-init
-loop-k-init c = (judging-start, omega arith)
-
-pub kth_test-requires : goal.kth_test-requires
-kth_test-requires c = c.loop-k.invariant.0.front
-
-pub returns-in-Fails : goal.returns-in-Fails
-returns-in-Fails c =
-    judging-stop c.loop-k.invariant.0
-    (sym c.kth_test.ensures ∙ ap finding_says c.in-Fails.is)
-
-pub loop-k-preserved : goal.loop-k-preserved
-loop-k-preserved c = (
-  judging-on c.loop-k.invariant.0
-      (sym c.kth_test.ensures ∙ ap finding_says c.in_default.is),
-  omega arith,
-)
+pub returns-in_err-flows_test-2 : goal.returns-in_err-flows_test-2
+unfolding course_tests site_fault
+returns-in_err-flows_test-2 c =
+    let p = err_from_is_err_and c.from_residual-in_err-flows_test-2.result c.from_residual-in_err-flows_test-2.ensures.1 in
+    rw (p.1, p.2) (past (sheet_tests _) _ c.in_ok-sheet_test.ensures (behind _ (rw c.segment_count-n.ensures at c.in_ok-flows_test.ensures) (stop _ (rw c.segment_count-n.ensures at c.in_err-flows_test-2.ensures))))
 
 pub returns : goal.returns
-returns c = judging-end c.loop-k.invariant.0 (omega (arith, length-tests c.args.sheet.now))
+unfolding course_tests site_fault
+returns c =
+    past (sheet_tests _) _ c.in_ok-sheet_test.ensures (behind _ (rw c.segment_count-n.ensures at c.in_ok-flows_test.ensures) (behind _ (rw c.segment_count-n.ensures at c.in_ok-flows_test-2.ensures) (last (rw c.segment_count-n.ensures at c.flows_test-3.ensures))))

@@ -1,12 +1,9 @@
 -- `highest_from` meets its contract.
 use mathlib.Core.Path.{◌≡◌}
-use Prim.Native.Nat.{◌+◌, ◌-◌, ◌≤◌}
+use Prim.Native.Nat.{◌+◌}
 use lib.ListN.{get_or}
 use Rattle.lists.specs.Lists.{highest_below}
 use Rattle.blocks.proofs.highest_from.Given as goal
 
 abbrev pub invariant-loop-j : goal.invariant-loop-j
-invariant-loop-j l = (l.j ≤ l.count) × (l.top ≡ highest_below l.j (λ i. get_or l.channel (l.from + i) 0))
-
-abbrev pub decreases-loop-j : goal.decreases-loop-j
-decreases-loop-j l = l.count - l.j
+invariant-loop-j l = l.top ≡ highest_below l.j (λ i. get_or l.channel (l.from + i) 0)

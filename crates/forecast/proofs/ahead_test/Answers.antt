@@ -1,39 +1,47 @@
 -- `ahead_test` meets its contract: tests 13, 14 and 20 in their order.
 use mathlib.Core.Path.{sym, ◌∙◌}
-use Rattle.lists.specs.Lent.{plain}
+use Rattle.std.proofs.lemmas.Result.{err_from_is_err_and}
 use Rattle.model.specs.State.{figures_at}
 use Rattle.model.specs.Calls.{held_fault}
-use Rattle.terms.specs.Lent.{state, working}
-use Rattle.forecast.specs.Says.{question, live_river, room}
-use Rattle.forecast.proofs.Tests.{held-alone, finds-lent, live_long, finds-segment, finds-held, finds-forecast, finds-none}
+use Rattle.model.proofs.Refusals.{test-clear}
+use Rattle.calltests.proofs.Found.{failed, below-some, below-none}
+use Rattle.forecast.specs.Says.{question_says, live_of, room_lent}
+use Rattle.forecast.proofs.Tests.{held-alone, finds-lent, live_long, finds-segment, finds-held, finds-forecast}
 use Rattle.forecast.proofs.ahead_test.Goals as goal
 
-pub returns-then-lent_fault : goal.returns-then-lent_fault
-returns-then-lent_fault c = λ upstream steps.
-    finds-lent _ (live_river c.args.n (state plain c.args.channel.now c.args.storage.now c.args.sediment.now c.args.river.upstream c.args.river.steps) c.args.highest.now) (room (state plain c.args.channel1.now c.args.storage1.now c.args.sediment1.now upstream steps) c.args.highest1.now c.args.sides.now (working plain c.args.p.now c.args.y.now)) (question c.args.gauge c.args.limit c.args.horizon) _ _ c.segment_count.ensures c.lent_fault.ensures c.if-lent_fault.true
+pub returns-in_err-test : goal.returns-in_err-test
+returns-in_err-test c = λ upstream steps.
+    let p = err_from_is_err_and c.from_residual.result c.from_residual.ensures.1 in
+    let f = failed c.in_err-test.ensures in
+    rw (p.1, p.2, f.1) (finds-lent _ _ _ _ (sym c.lent_fault.ensures ∙ f.0))
 
-pub figures_at_fault-i-requires : goal.figures_at_fault-i-requires
-figures_at_fault-i-requires c = live_long _ (live_river c.args.n (state plain c.args.channel.now c.args.storage.now c.args.sediment.now c.args.river.upstream c.args.river.steps) c.args.highest.now) (room (state plain c.args.channel1.now c.args.storage1.now c.args.sediment1.now 0 0) c.args.highest1.now c.args.sides.now (working plain c.args.p.now c.args.y.now)) (question c.args.gauge c.args.limit c.args.horizon) _ _ c.segment_count.ensures c.lent_fault.ensures c.if-lent_fault.false
+pub figures_at_fault-requires : goal.figures_at_fault-requires
+figures_at_fault-requires c =
+    live_long _ (live_of c.args.live) (room_lent c.args.copies.now c.args.highest1.now c.args.sides.now c.args.working.now 0 0)
+    (question_says c.args.asked) (sym c.lent_fault.ensures ∙ test-clear 13 _ (sym c.in_ok-test.ensures))
 
-pub returns-then-i-n : goal.returns-then-i-n
+pub returns-in-Some : goal.returns-in-Some
 unfolding figures_at
-returns-then-i-n c = λ upstream steps.
-    finds-segment _ (live_river c.args.n (state plain c.args.channel.now c.args.storage.now c.args.sediment.now c.args.river.upstream c.args.river.steps) c.args.highest.now) (room (state plain c.args.channel1.now c.args.storage1.now c.args.sediment1.now upstream steps) c.args.highest1.now c.args.sides.now (working plain c.args.p.now c.args.y.now)) (question c.args.gauge c.args.limit c.args.horizon) _ _ c.segment_count.ensures c.lent_fault.ensures c.if-lent_fault.false _ c.figures_at_fault-i.ensures c.if-i-n.true
+returns-in-Some c = λ upstream steps.
+    let found = below-some c.in-Some.ensures in
+    rw c.at.ensures
+    (finds-segment _ _ _ _
+    (sym c.lent_fault.ensures ∙ test-clear 13 _ (sym c.in_ok-test.ensures)) _ found.0 found.1)
 
-pub returns-then-held_fault : goal.returns-then-held_fault
+pub returns-in_err-test-2 : goal.returns-in_err-test-2
 unfolding figures_at held_fault
-returns-then-held_fault c = λ upstream steps.
-    finds-held _ (live_river c.args.n (state plain c.args.channel.now c.args.storage.now c.args.sediment.now c.args.river.upstream c.args.river.steps) c.args.highest.now) (room (state plain c.args.channel1.now c.args.storage1.now c.args.sediment1.now upstream steps) c.args.highest1.now c.args.sides.now (working plain c.args.p.now c.args.y.now)) (question c.args.gauge c.args.limit c.args.horizon) _ _ c.segment_count.ensures c.lent_fault.ensures c.if-lent_fault.false _ c.figures_at_fault-i.ensures c.if-i-n.false
-    (sym (held-alone c.args.river.upstream c.args.river.steps) ∙ sym c.held_fault.ensures ∙ c.if-held_fault.true)
-
-pub returns-then-forecast_fault : goal.returns-then-forecast_fault
-unfolding figures_at held_fault
-returns-then-forecast_fault c = λ upstream steps.
-    finds-forecast _ (live_river c.args.n (state plain c.args.channel.now c.args.storage.now c.args.sediment.now c.args.river.upstream c.args.river.steps) c.args.highest.now) (room (state plain c.args.channel1.now c.args.storage1.now c.args.sediment1.now upstream steps) c.args.highest1.now c.args.sides.now (working plain c.args.p.now c.args.y.now)) (question c.args.gauge c.args.limit c.args.horizon) _ _ c.segment_count.ensures c.lent_fault.ensures c.if-lent_fault.false _ c.figures_at_fault-i.ensures c.if-i-n.false
-    (sym (held-alone c.args.river.upstream c.args.river.steps) ∙ sym c.held_fault.ensures ∙ c.if-held_fault.false) (sym c.forecast_fault.ensures ∙ c.if-forecast_fault.true)
+returns-in_err-test-2 c = λ upstream steps.
+    let p = err_from_is_err_and c.from_residual-in_err-test-2.result c.from_residual-in_err-test-2.ensures.1 in
+    let f = failed c.in_err-test-2.ensures in
+    rw (p.1, p.2, f.1)
+    (finds-held _ _ _ _
+    (sym c.lent_fault.ensures ∙ test-clear 13 _ (sym c.in_ok-test.ensures)) (below-none c.in_default.ensures)
+    (sym (held-alone _ _) ∙ sym c.held_fault.ensures ∙ f.0))
 
 pub returns : goal.returns
 unfolding figures_at held_fault
 returns c = λ upstream steps.
-    finds-none _ (live_river c.args.n (state plain c.args.channel.now c.args.storage.now c.args.sediment.now c.args.river.upstream c.args.river.steps) c.args.highest.now) (room (state plain c.args.channel1.now c.args.storage1.now c.args.sediment1.now upstream steps) c.args.highest1.now c.args.sides.now (working plain c.args.p.now c.args.y.now)) (question c.args.gauge c.args.limit c.args.horizon) _ _ c.segment_count.ensures c.lent_fault.ensures c.if-lent_fault.false _ c.figures_at_fault-i.ensures c.if-i-n.false
-    (sym (held-alone c.args.river.upstream c.args.river.steps) ∙ sym c.held_fault.ensures ∙ c.if-held_fault.false) (sym c.forecast_fault.ensures ∙ c.if-forecast_fault.false)
+    rw (c.test-3.ensures, c.forecast_fault.ensures)
+    (finds-forecast _ _ _ _
+    (sym c.lent_fault.ensures ∙ test-clear 13 _ (sym c.in_ok-test.ensures)) (below-none c.in_default.ensures)
+    (sym (held-alone _ _) ∙ sym c.held_fault.ensures ∙ test-clear 14 _ (sym c.in_ok-test-2.ensures)))

@@ -1,46 +1,42 @@
 -- `on_pool` meets its contract: the sheet's tests, the pool's own, and the forecast on the river's stretch.
-use mathlib.Core.Path.{refl, sym, ap, ◌∙◌}
-use native.Mathlib.Omega.{arith}
-use Rattle.lists.specs.Lent.{plain}
-use Rattle.model.specs.Refusals.{passes}
-use Rattle.terms.specs.Says.{finding_says}
-use Rattle.terms.specs.Lent.{state, working, pool}
+use mathlib.Core.Path.{refl, sym, ◌∙◌}
+use Rattle.std.proofs.lemmas.Result.{err_from_is_err_and}
 use Rattle.pool_table.specs.Says.{slot_says}
-use Rattle.pool.proofs.Stretched.{stands}
-use Rattle.forecast.specs.Says.{question, room}
+use Rattle.pool.proofs.Stretched.{stands, parts_are}
 use Rattle.forecast.proofs.Answers.{pool-sheet-fails, pool-fails, pool-passes}
 use Rattle.forecast.proofs.on_pool.Goals as goal
 
-pub returns-in-Fails-clause-result : goal.returns-in-Fails-clause-result
-returns-in-Fails-clause-result c = λ upstream steps. pool-sheet-fails _ (pool plain c.args.channel.now c.args.storage.now c.args.sediment.now c.args.table.now) c.args.river c.args.highest.now (room (state plain c.args.channel1.now c.args.storage1.now c.args.sediment1.now upstream steps) c.args.highest1.now c.args.sides.now (working plain c.args.p.now c.args.y.now)) (question c.args.gauge c.args.limit c.args.horizon) (sym c.river_test-test.ensures ∙ ap finding_says c.in-Fails.is)
+pub returns-in_err-river_test-clause-result : goal.returns-in_err-river_test-clause-result
+returns-in_err-river_test-clause-result c = λ upstream steps.
+    let p = err_from_is_err_and c.from_residual.result c.from_residual.ensures.1 in
+    rw (p.1, p.2)
+    (pool-sheet-fails _ _ _ _ _ _
+    (sym c.in_err-river_test.ensures))
 
-pub returns-in-Fails-clause-sides : goal.returns-in-Fails-clause-sides
-returns-in-Fails-clause-sides c = refl
+pub returns-in_err-slot-clause-result : goal.returns-in_err-slot-clause-result
+returns-in_err-slot-clause-result c = λ upstream steps.
+    let p = err_from_is_err_and c.from_residual-in_err-slot.result c.from_residual-in_err-slot.ensures.1 in
+    rw (p.1, p.2)
+    (pool-fails _ _ _ _ _ _
+    (sym c.in_ok-river_test.ensures) (sym c.in_err-slot.ensures.finding))
 
-pub returns-in-Fails-shared-clause-result : goal.returns-in-Fails-shared-clause-result
-returns-in-Fails-shared-clause-result c = λ upstream steps. pool-fails _ (pool plain c.args.channel.now c.args.storage.now c.args.sediment.now c.args.table.now) c.args.river c.args.highest.now (room (state plain c.args.channel1.now c.args.storage1.now c.args.sediment1.now upstream steps) c.args.highest1.now c.args.sides.now (working plain c.args.p.now c.args.y.now)) (question c.args.gauge c.args.limit c.args.horizon) (sym c.river_test-test.ensures ∙ ap finding_says c.in_default.is) (sym c.pool_test-shared.ensures ∙ ap finding_says c.in-Fails-shared.is)
+pub slice_bounds-live-end : goal.slice_bounds-live-end
+slice_bounds-live-end c =
+    (stands _ _ refl c.args.river c.in_ok-slot.ensures.finding
+    (slot_says c.in_ok-slot.slot) c.in_ok-slot.ensures.slot _ _ c.stretch-first.ensures).channel
 
-pub returns-in-Fails-shared-clause-sides : goal.returns-in-Fails-shared-clause-sides
-returns-in-Fails-shared-clause-sides c = refl
+pub slice_bounds-live-end-2 : goal.slice_bounds-live-end-2
+slice_bounds-live-end-2 c =
+    (stands _ _ refl c.args.river c.in_ok-slot.ensures.finding
+    (slot_says c.in_ok-slot.slot) c.in_ok-slot.ensures.slot _ _ c.stretch-first.ensures).storage
 
-pub overflow_sub-river : goal.overflow_sub-river
-overflow_sub-river c = (stands _ _ _ refl (sym c.pool_test-shared.ensures ∙ ap finding_says c.in_default-shared.is)).from
-
-pub slice_bounds-behind-end : goal.slice_bounds-behind-end
-slice_bounds-behind-end c = let s = (stands _ _ _ c.taken-x.ensures (sym c.pool_test-shared.ensures ∙ ap finding_says c.in_default-shared.is)) in omega (arith, s.ends, s.channel)
-
-pub slice_bounds-behind-end-2 : goal.slice_bounds-behind-end-2
-slice_bounds-behind-end-2 c = let s = (stands _ _ _ c.taken-x.ensures (sym c.pool_test-shared.ensures ∙ ap finding_says c.in_default-shared.is)) in omega (arith, s.ends, s.storage)
-
-pub slice_bounds-behind-end-3 : goal.slice_bounds-behind-end-3
-slice_bounds-behind-end-3 c = let s = (stands _ _ _ c.taken-x.ensures (sym c.pool_test-shared.ensures ∙ ap finding_says c.in_default-shared.is)) in omega (arith, s.ends, s.sediment)
-
-pub behind-requires : goal.behind-requires
-behind-requires c = (sym c.river_test-test.ensures ∙ ap finding_says c.in_default.is)
+pub slice_bounds-live-end-3 : goal.slice_bounds-live-end-3
+slice_bounds-live-end-3 c =
+    (stands _ _ refl c.args.river c.in_ok-slot.ensures.finding
+    (slot_says c.in_ok-slot.slot) c.in_ok-slot.ensures.slot _ _ c.stretch-first.ensures).sediment
 
 pub returns-clause-result : goal.returns-clause-result
 returns-clause-result c = λ upstream steps. c.behind.ensures.result upstream steps
-    ∙ pool-passes _ (pool plain c.args.channel.now c.args.storage.now c.args.sediment.now c.args.table.now) c.args.river c.args.highest.now (room (state plain c.args.channel1.now c.args.storage1.now c.args.sediment1.now upstream steps) c.args.highest1.now c.args.sides.now (working plain c.args.p.now c.args.y.now)) (question c.args.gauge c.args.limit c.args.horizon) (sym c.river_test-test.ensures ∙ ap finding_says c.in_default.is) (sym c.pool_test-shared.ensures ∙ ap finding_says c.in_default-shared.is) (slot_says c.taken-x.result) c.taken-x.ensures
-
-pub returns-clause-sides : goal.returns-clause-sides
-returns-clause-sides c = c.behind.ensures.sides
+    ∙ pool-passes _ _ _ _ _ _
+    (sym c.in_ok-river_test.ensures) (sym c.in_ok-slot.ensures.finding) (slot_says c.in_ok-slot.slot) c.in_ok-slot.ensures.slot _
+    (parts_are _ _ refl c.args.river c.in_ok-slot.ensures.finding (slot_says c.in_ok-slot.slot) c.in_ok-slot.ensures.slot _ _ c.stretch-first.ensures)

@@ -1,15 +1,13 @@
 -- `run` meets its contract: no state before the last is above the limit.
-use Prim.Native.Nat.{◌<◌}
-use Rattle.lists.specs.Lent.{plain}
-use Rattle.terms.specs.Lent.{state, working}
+use Rattle.terms.specs.Lent.{state_lent, working_lent, SameState, SameWorking}
 use Rattle.forecast.proofs.Going.{Going}
 use Rattle.forecast.proofs.run.Given as goal
 
-abbrev pub invariant-loop-left : goal.invariant-loop-left
-invariant-loop-left l =
-    Going l.sheet l.n l.initial.sides (state plain l.initial.channel l.initial.storage l.initial.sediment l.initial.river.upstream l.initial.river.steps) (working plain l.initial.p l.initial.y) l.at l.limit l.horizon
-    l.sides (state plain l.channel l.storage l.sediment l.river.upstream l.river.steps) (working plain l.p l.y) l.left
-    × (l.at < l.n)
-
-abbrev pub decreases-loop-left : goal.decreases-loop-left
-decreases-loop-left l = l.left
+abbrev pub invariant-loop : goal.invariant-loop
+invariant-loop l = record {
+  same_state : SameState l.initial.state l.state;
+  same_working : SameWorking l.initial.working l.working;
+  going : Going l.sheet l.n l.initial.sides (state_lent l.initial.state l.initial.river.upstream l.initial.river.steps)
+      (working_lent l.initial.working) l.at l.asked.limit l.asked.horizon
+      l.sides (state_lent l.state l.river.upstream l.river.steps) (working_lent l.working) l.counter;
+}

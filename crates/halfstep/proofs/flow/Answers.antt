@@ -1,62 +1,36 @@
 -- `flow` meets its contract: twice 65,536 segments' gain and one segment's own fit 64 bits, and the quotient is no larger than they are.
--- Assumes nothing.
+use mathlib.Core.Path.{◌≡◌, ◌∙◌}
 use native.Mathlib.Omega.{arith}
-use mathlib.Core.Path.{◌≡◌}
-use Prim.Native.Nat.{◌≤◌, ◌^◌}
-use lib.IntN.{pos, nat_abs, ◌+ℤ◌, ◌*ℤ◌}
+use lib.IntN.{pos, ◌+ℤ◌, ◌*ℤ◌}
 use mir.Syntax.{w64}
-use mir.Val.{to_z, of_z}
+use mir.ValLaws.{to_z-of_z}
 use Rattle.rounding.specs.Floor.{floor_div}
-use Rattle.model.specs.Flow.{own_gain, flow}
-use Rattle.terms.specs.Says.{reach_says}
-use Rattle.halfstep.proofs.Signed.{back-abs, result, fits-abs, abs-sum, abs-twice, abs-twice-and, abs-floor}
+use Rattle.model.specs.Flow.{flow}
+use Rattle.halfstep.proofs.Signed.{back, back-abs, result, fits-abs, abs-sum, abs-twice, abs-twice-and, abs-floor}
 use Rattle.halfstep.proofs.flow.Goals as goal
 
-pub times-requires : goal.times-requires
-times-requires c =
+-- the quotient, with what was doubled and added read back
+quotient : (c : goal.After-floor_div) → c.floor_div.result ≡ floor_div (pos 2 *ℤ c.args.gain +ℤ c.share.result) 200000
+quotient c =
     let gain = c.args.gain in
-    rw (back-abs gain (omega (arith, c.requires.1))) (fits-abs _ (omega (arith, c.requires.1, abs-twice gain)))
+    let own = c.share.result in
+    let small = c.requires.1 in
+    let twice = back-abs (pos 2 *ℤ gain) (omega (arith, abs-twice gain)) in
+    let sum = back-abs (pos 2 *ℤ gain +ℤ own) (omega (arith, abs-twice-and gain own, c.share.ensures.1)) in
+    rw (back own c.share.type_inv, back-abs gain (omega arith), twice, sum)
+    at c.floor_div.ensures
 
-pub plus-twice-requires : goal.plus-twice-requires
-plus-twice-requires c =
-    let t = c.times in
-    let s = c.share in
-    let gain = c.args.gain in
-    let own = own_gain (reach_says c.args.own) c.args.dx in
-    let small : nat_abs own ≤ 10 ^ 12 = rw (← s.ensures.0) s.ensures.1 in
-    rw (result s.type_inv s.ensures.0, result t.type_inv t.ensures, back-abs gain (omega (arith, c.requires.1)))
-    (fits-abs _ (omega (arith, c.requires.1, small, abs-twice-and gain own)))
-
-pub plus-requires : goal.plus-requires
-plus-requires c =
-    let f = c.floor_div in
-    let i = c.int in
-    let gain = c.args.gain in
-    let own = own_gain (reach_says c.args.own) c.args.dx in
-    let small : nat_abs own ≤ 10 ^ 12 = rw (← c.share.ensures.0) c.share.ensures.1 in
-    let sum = pos 2 *ℤ gain +ℤ own in
-    let q = c.plus-twice in
-    let s = c.share in
-    let t = c.times in
-    -- the doubled sum, read back
-    let twice : to_z w64 (of_z w64 q.result) ≡ sum =
-    rw (result q.type_inv q.ensures, result s.type_inv s.ensures.0, result t.type_inv t.ensures, back-abs gain (omega (arith, c.requires.1))) in
-    rw (result f.type_inv f.ensures, result i.type_inv i.ensures, twice)
-    (fits-abs _ (omega (arith, c.requires.1, small, abs-sum (pos c.args.top) (floor_div sum 200000), abs-floor sum 200000, abs-twice-and gain own)))
+pub overflow_add-result : goal.overflow_add-result
+overflow_add-result c =
+    let sum = pos 2 *ℤ c.args.gain +ℤ c.share.result in
+    let most = abs-sum (pos c.args.top) (floor_div sum 200000) in
+    let quotient = quotient c in
+    rw (result c.from.type_inv c.from.ensures, result c.floor_div.type_inv quotient)
+    (fits-abs _ (omega (arith, c.requires.1, c.share.ensures.1, most, abs-floor sum 200000, abs-twice-and c.args.gain c.share.result)))
 
 pub returns : goal.returns
 unfolding flow
 returns c =
-    let p = c.plus in
-    let f = c.floor_div in
-    let i = c.int in
-    let gain = c.args.gain in
-    let own = own_gain (reach_says c.args.own) c.args.dx in
-    let sum = pos 2 *ℤ gain +ℤ own in
-    let q = c.plus-twice in
-    let s = c.share in
-    let t = c.times in
-    -- the doubled sum, read back
-    let twice : to_z w64 (of_z w64 q.result) ≡ sum =
-    rw (result q.type_inv q.ensures, result s.type_inv s.ensures.0, result t.type_inv t.ensures, back-abs gain (omega (arith, c.requires.1))) in
-    rw (result p.type_inv p.ensures, result f.type_inv f.ensures, result i.type_inv i.ensures, twice)
+    let fits = overflow_add-result c in
+    let quotient = quotient c in
+    to_z-of_z w64 _ fits ∙ rw (result c.from.type_inv c.from.ensures, result c.floor_div.type_inv quotient, c.share.ensures.0)

@@ -1,11 +1,11 @@
-use Rattle.lists.proofs.Shorter.{looking-hit, looking-miss, looking-end}
+use mathlib.Core.Path.{◌∙◌}
+use Rattle.std.proofs.Common.{rules, nat_lt}
+use Rattle.std.proofs.lemmas.Iterator.{YieldsList-from_slice}
+use Rattle.std.proofs.lemmas.Iterator.Search.{any_from_yields_List}
+use Rattle.lists.proofs.Shorter.{under_list_any}
 use Rattle.lists.proofs.any_short.Goals as goal
 
-pub returns-then-lengths-i : goal.returns-then-lengths-i
-returns-then-lengths-i c = looking-hit c.loop-i.invariant c.loop-i-test.true c.if-lengths-i.true
-
-pub loop-i-preserved : goal.loop-i-preserved
-loop-i-preserved c = looking-miss c.loop-i.invariant c.loop-i-test.true c.if-lengths-i.false
-
 pub returns : goal.returns
-returns c = looking-end c.loop-i.invariant c.loop-i-test.false
+returns c =
+    any_from_yields_List (λ x. nat_lt x c.args.n) _ _ _ c.any.ensures.ran (YieldsList-from_slice c.args.lengths.now cc) (λ x b q k. search rules)
+    ∙ under_list_any c.args.n c.args.lengths.now

@@ -3,10 +3,9 @@ use mathlib.Core.List.{map}
 use mathlib.Core.Path.{ap, sym, ◌∙◌}
 use lib.ListN.{length-map}
 use Rattle.model.specs.Sheet.{reach_count}
-use Rattle.model.specs.State.{Columns}
 use Rattle.model.specs.Load.{load_answer}
 use Rattle.terms.specs.Says.{reach_says}
-use Rattle.terms.specs.Lent.{columns}
+use Rattle.terms.specs.Lent.{columns_lent}
 use Rattle.records.specs.Records.{filled, fill_count}
 use Rattle.records.proofs.Filled.{load-records}
 use Rattle.loading.proofs.load.Goals as goal
@@ -16,7 +15,7 @@ returns-clause-records c =
     let a = c.args in
     let sheet = a.sheet.now in
     let before = map reach_says a.reaches.now in
-    let lent : Columns = columns (λ x. x.now) a.e a.g a.l a.a a.b a.k a.ks a.h a.m a.s a.cl a.cb a.kd a.start in
+    let lent = columns_lent a.columns.now in
     let answer = c.assemble-answer.ensures.answer ∙ ap (λ n. load_answer sheet a.row n lent) (sym (length-map a.reaches.now reach_says)) in
     c.fill.ensures
     ∙ ap (λ n. filled sheet n before) (c.fill_count.ensures ∙ ap (λ t. fill_count t (reach_count sheet)) answer)

@@ -3,21 +3,18 @@ use native.Mathlib.Omega.{arith}
 use Rattle.own_river.proofs.Stepping.{copied, starts-long, begun}
 use Rattle.own_river.proofs.start.Goals as goal
 
-pub hold-requires : goal.hold-requires
-hold-requires c = (c.requires.0, c.requires.1)
-
 pub copy-requires : goal.copy-requires
-copy-requires c = (starts-long _ _ _ (omega (arith, c.hold.ensures.sides_are.long, c.requires.1)) c.starts.ensures, c.requires.2.channel)
+copy-requires c = (starts-long _ _ _ (omega (arith, c.hold.ensures.sides_are.long, c.requires.1)) c.starts-starts.ensures, c.requires.2.channel)
 
 pub copy-requires-2 : goal.copy-requires-2
-copy-requires-2 c = (starts-long _ _ _ (omega (arith, c.hold.ensures.sides_are.long, c.requires.1)) c.starts-2.ensures, c.requires.2.storage)
+copy-requires-2 c = (starts-long _ _ _ (omega (arith, c.hold.ensures.sides_are.long, c.requires.1)) c.starts-starts.ensures, c.requires.2.storage)
 
 pub copy-requires-3 : goal.copy-requires-3
-copy-requires-3 c = (starts-long _ _ _ (omega (arith, c.hold.ensures.sides_are.long, c.requires.1)) c.starts-3.ensures, c.requires.2.sediment)
+copy-requires-3 c = (starts-long _ _ _ (omega (arith, c.hold.ensures.sides_are.long, c.requires.1)) c.starts-starts.ensures, c.requires.2.sediment)
 
-pub returns : goal.returns
-returns c =
+pub returns-clause-begun : goal.returns-clause-begun
+returns-clause-begun c =
     begun _ _ _ _ _ _ c.requires.0 c.requires.2 c.requires.3 c.hold.ensures _ _ _
-    (copied c.args.n c.args.channel.now c.starts.ensures c.copy.ensures)
-    (copied c.args.n c.args.storage.now c.starts-2.ensures c.copy-2.ensures)
-    (copied c.args.n c.args.sediment.now c.starts-3.ensures c.copy-3.ensures)
+    (copied c.args.n c.args.state.now.channel.now c.starts-starts.ensures c.copy.ensures)
+    (copied c.args.n c.args.state.now.storage.now c.starts-starts.ensures c.copy-2.ensures)
+    (copied c.args.n c.args.state.now.sediment.now c.starts-starts.ensures c.copy-3.ensures)

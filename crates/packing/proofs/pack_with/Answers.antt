@@ -1,4 +1,3 @@
--- `pack_with` meets its contract.
 use native.Mathlib.Omega.{arith}
 use Rattle.terms.specs.Lent.{table_in}
 use Rattle.packing.proofs.Packed.{list-packed, packed-end}

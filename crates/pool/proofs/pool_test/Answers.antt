@@ -1,18 +1,19 @@
--- `pool_test` meets its contract.
-use Rattle.lists.specs.Lists.{any_shorter, any_under}
-use Rattle.model.specs.Pool.{shared_fault, pool_tests}
+use Rattle.std.proofs.Common.{◌≡◌, Err, rules}
+use Rattle.model.specs.Pool.{pool_tests}
 use Rattle.pool.proofs.pool_test.Goals as goal
 
-pub returns-then-number_fault : goal.returns-then-number_fault
+pub returns-in_err-slot-clause-finding : goal.returns-in_err-slot-clause-finding
 unfolding pool_tests
-returns-then-number_fault c = rw (← c.number_fault.ensures, c.if-number_fault.true)
+returns-in_err-slot-clause-finding c =
+    let e : c.from_residual.result ≡ Err c.in_err-slot.field-0.0 = search rules in
+    rw (e, ← c.in_err-slot.ensures.finding)
 
-pub returns-then-any_short : goal.returns-then-any_short
-unfolding pool_tests shared_fault any_shorter any_under
-returns-then-any_short c =
-    rw (← c.number_fault.ensures, c.if-number_fault.false, ← c.any_short.ensures, c.if-any_short.true)
+pub returns-in_err-test-clause-finding : goal.returns-in_err-test-clause-finding
+unfolding pool_tests
+returns-in_err-test-clause-finding c =
+    let e : c.from_residual-in_err-test.result ≡ Err c.in_err-test.field-0.0 = search rules in
+    rw (e, ← c.in_ok-slot.ensures.finding, ← c.shared_fault.ensures, ← c.in_err-test.ensures)
 
-pub returns : goal.returns
-unfolding pool_tests shared_fault any_shorter any_under
-returns c =
-    rw (← c.number_fault.ensures, c.if-number_fault.false, ← c.any_short.ensures, c.if-any_short.false)
+pub returns-clause-finding : goal.returns-clause-finding
+unfolding pool_tests
+returns-clause-finding c = rw (← c.in_ok-slot.ensures.finding, ← c.shared_fault.ensures, ← c.in_ok-test.ensures)

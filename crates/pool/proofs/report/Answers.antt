@@ -1,32 +1,32 @@
--- `report` meets its contract.
-use mathlib.Core.Path.{refl, sym, ap, ◌∙◌}
-use native.Mathlib.Omega.{arith}
-use Rattle.lists.specs.Lent.{plain}
+use Rattle.std.proofs.Common.{◌≡◌, Err, sym, refl, ap, ◌∙◌, rules}
 use Rattle.model.specs.Calls.{report}
-use Rattle.pool_laws.proofs.Answers.{refused-in-front}
-use Rattle.terms.specs.Says.{finding_says}
-use Rattle.terms.specs.Lent.{columns_of, pool}
+use Rattle.terms.specs.Lent.{columns_of, pool_of}
 use Rattle.pool_table.specs.Says.{slot_says}
-use Rattle.pool.proofs.Stretched.{stands, reports}
+use Rattle.pool.proofs.Stretched.{in-front, stands, reports}
 use Rattle.pool.proofs.report.Goals as goal
 
-pub returns-in-Fails : goal.returns-in-Fails
-returns-in-Fails c =
-    let fault = sym c.pool_test-found.ensures ∙ ap finding_says c.in-Fails.is in
-    sym (ap (λ x. x.answer) (refused-in-front (pool plain c.args.channel.now c.args.storage.now c.args.sediment.now c.args.table.now) c.args.river (report (columns_of c.args.numbers c.args.fixed) c.args.segment) fault))
+pub returns-in_err-slot : goal.returns-in_err-slot
+returns-in_err-slot c =
+    let e : c.from_residual.result ≡ Err c.in_err-slot.field-0.0 = search rules in
+    rw e (sym (ap (λ r. r.answer) (in-front (pool_of c.args.shared c.args.table.now) _ _ (report (columns_of c.args.columns) c.args.segment) refl c.in_err-slot.ensures.finding)))
 
-pub overflow_sub-river : goal.overflow_sub-river
-overflow_sub-river c = (stands _ _ _ refl (sym c.pool_test-found.ensures ∙ ap finding_says c.in_default.is)).from
+pub slice_bounds-stretch-end : goal.slice_bounds-stretch-end
+slice_bounds-stretch-end c =
+    (stands (pool_of c.args.shared c.args.table.now) _ refl c.args.river c.in_ok-slot.ensures.finding
+    (slot_says c.in_ok-slot.slot) c.in_ok-slot.ensures.slot _ _ c.stretch-first.ensures).channel
 
-pub slice_bounds-report-end : goal.slice_bounds-report-end
-slice_bounds-report-end c = let s = (stands _ _ _ c.taken-x.ensures (sym c.pool_test-found.ensures ∙ ap finding_says c.in_default.is)) in omega (arith, s.ends, s.channel)
+pub slice_bounds-stretch-end-2 : goal.slice_bounds-stretch-end-2
+slice_bounds-stretch-end-2 c =
+    (stands (pool_of c.args.shared c.args.table.now) _ refl c.args.river c.in_ok-slot.ensures.finding
+    (slot_says c.in_ok-slot.slot) c.in_ok-slot.ensures.slot _ _ c.stretch-first.ensures).storage
 
-pub slice_bounds-report-end-2 : goal.slice_bounds-report-end-2
-slice_bounds-report-end-2 c = let s = (stands _ _ _ c.taken-x.ensures (sym c.pool_test-found.ensures ∙ ap finding_says c.in_default.is)) in omega (arith, s.ends, s.storage)
-
-pub slice_bounds-report-end-3 : goal.slice_bounds-report-end-3
-slice_bounds-report-end-3 c = let s = (stands _ _ _ c.taken-x.ensures (sym c.pool_test-found.ensures ∙ ap finding_says c.in_default.is)) in omega (arith, s.ends, s.sediment)
+pub slice_bounds-stretch-end-3 : goal.slice_bounds-stretch-end-3
+slice_bounds-stretch-end-3 c =
+    (stands (pool_of c.args.shared c.args.table.now) _ refl c.args.river c.in_ok-slot.ensures.finding
+    (slot_says c.in_ok-slot.slot) c.in_ok-slot.ensures.slot _ _ c.stretch-first.ensures).sediment
 
 pub returns : goal.returns
 returns c =
-    c.report.ensures ∙ reports (pool plain c.args.channel.now c.args.storage.now c.args.sediment.now c.args.table.now) c.args.river (slot_says c.taken-x.result) c.taken-x.ensures (sym c.pool_test-found.ensures ∙ ap finding_says c.in_default.is) _ _
+    rw c.river_in.ensures at c.report.ensures
+    ∙ reports (pool_of c.args.shared c.args.table.now) _ refl c.args.river c.in_ok-slot.ensures.finding
+    (slot_says c.in_ok-slot.slot) c.in_ok-slot.ensures.slot _ _ c.stretch-first.ensures _ _

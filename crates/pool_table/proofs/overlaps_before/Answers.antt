@@ -1,21 +1,15 @@
-use mathlib.Core.Bool.{false}
-use mathlib.Core.Path.{◌≡◌, sym, ap, ◌∙◌}
-use Prim.Native.Nat.{◌-◌}
-use native.Mathlib.Omega.{arith}
-use Rattle.lists.proofs.Below.{any-start, any-miss, any-hit}
-use Rattle.model.specs.Pool.{overlap}
+use Rattle.std.proofs.Common.{ℕ, ◌∙◌, rules}
+use Rattle.std.proofs.lemmas.Iterator.{YieldsList-from_range}
+use Rattle.std.proofs.lemmas.Iterator.Search.{any_from_yields_List}
+use Rattle.model.specs.Pool.{slot_at, overlap}
+use Rattle.terms.specs.Lent.{table_in}
 use Rattle.pool_table.specs.Says.{slot_says}
-use borrow.Author.Rules.{rules}
+use Rattle.lists.proofs.AnyBelow.{below-any}
 use Rattle.pool_table.proofs.overlaps_before.Goals as goal
 
-pub loop-j-init : goal.loop-j-init
-loop-j-init c = (search rules, any-start _)
-
-pub returns-then-overlap_of : goal.returns-then-overlap_of
-returns-then-overlap_of c = sym (any-hit _ _ _ c.loop-j-test.true (ap (λ y. overlap (slot_says c.args.x) y) (sym c.taken.ensures) ∙ sym c.overlap_of.ensures ∙ c.if-overlap_of.true))
-
-pub loop-j-preserved : goal.loop-j-preserved
-loop-j-preserved c = (search rules, any-miss _ _ c.loop-j.invariant.1 (ap (λ y. overlap (slot_says c.args.x) y) (sym c.taken.ensures) ∙ sym c.overlap_of.ensures ∙ c.if-overlap_of.false))
-
 pub returns : goal.returns
-returns c = let e : c.loop-j.j ≡ c.args.i = omega (arith, c.loop-j-test.false, c.loop-j.invariant.0) in sym (rw e at c.loop-j.invariant.1)
+returns c =
+    let n = c.args.i in
+    let test = λ (j : ℕ). overlap (slot_says c.args.slot) (slot_at (table_in c.args.table) j) in
+    any_from_yields_List test _ _ _ c.any.ensures.ran (YieldsList-from_range 0 n n (search rules) (search rules)) (λ x b q k. search rules)
+    ∙ below-any test n

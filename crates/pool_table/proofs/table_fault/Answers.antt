@@ -1,25 +1,16 @@
-use mathlib.Core.Bool.{false}
-use mathlib.Core.Path.{◌≡◌, sym, ◌∙◌}
-use Prim.Native.Nat.{◌-◌}
-use native.Mathlib.Omega.{arith}
-use Rattle.lists.proofs.Below.{any-start, any-miss, any-hit}
-use Rattle.model.specs.Ranges.{most_rivers}
-use Rattle.model.specs.Pool.{table_fault}
-use borrow.Author.Rules.{rules}
+use Rattle.std.proofs.Common.{ℕ, ◌∙◌, ◌||◌, rules}
+use Rattle.std.proofs.lemmas.Iterator.{YieldsList-from_range}
+use Rattle.std.proofs.lemmas.Iterator.Search.{any_from_yields_List}
+use Rattle.lists.specs.Lists.{any_below}
+use Rattle.model.specs.Pool.{slot_at, passes_end, overlap, table_fault}
+use Rattle.terms.specs.Lent.{table_in}
+use Rattle.lists.proofs.AnyBelow.{below-any}
 use Rattle.pool_table.proofs.table_fault.Goals as goal
-
-pub loop-i-init : goal.loop-i-init
-loop-i-init c = (search rules, any-start _)
-
-pub returns-then-slot_fault : goal.returns-then-slot_fault
-unfolding table_fault
-returns-then-slot_fault c = sym (any-hit _ most_rivers _ c.loop-i-test.true (sym c.slot_fault.ensures ∙ c.if-slot_fault.true))
-
-pub loop-i-preserved : goal.loop-i-preserved
-loop-i-preserved c = (search rules, any-miss _ _ c.loop-i.invariant.1 (sym c.slot_fault.ensures ∙ c.if-slot_fault.false))
 
 pub returns : goal.returns
 unfolding table_fault
 returns c =
-    let e : c.loop-i.i ≡ most_rivers = omega (arith, c.loop-i-test.false, c.loop-i.invariant.0) in
-    sym (rw e at c.loop-i.invariant.1)
+    let slot = slot_at (table_in c.args.table) in
+    let test = λ (i : ℕ). passes_end (slot i) || any_below i (λ j. overlap (slot i) (slot j)) in
+    any_from_yields_List test _ _ _ c.any.ensures.ran (YieldsList-from_range 0 8 8 (search rules) (search rules)) (λ x b q k. search rules)
+    ∙ below-any test 8

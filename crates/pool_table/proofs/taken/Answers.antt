@@ -1,4 +1,3 @@
--- `taken` meets its contract.
 use mathlib.Core.Path.{sym}
 use lib.ListN.{get_or-eq_default}
 use Rattle.lists.proofs.Tab.{get_or-tab}
@@ -9,7 +8,9 @@ use Rattle.pool_table.proofs.taken.Goals as goal
 
 pub returns-then-i-ge-RIVERS : goal.returns-then-i-ge-RIVERS
 unfolding table_in
-returns-then-i-ge-RIVERS c = sym (get_or-eq_default (table_in c.args.table) vacant c.if-i-ge-RIVERS.true)
+returns-then-i-ge-RIVERS c =
+    let h = c.default.ensures in
+    rw (h.0, h.1.0, h.1.1.0, h.1.1.1.0, h.1.1.1.1) (sym (get_or-eq_default (table_in c.args.table) vacant c.if-i-ge-RIVERS.true))
 
 pub returns : goal.returns
 unfolding table_in

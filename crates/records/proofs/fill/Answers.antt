@@ -10,7 +10,7 @@ pub loop-i-preserved : goal.loop-i-preserved
 loop-i-preserved c =
     let i = c.loop-i.i in
     let r = c.reach.result in
-    (c.put.ensures ∙ ap (λ l. set l i r) c.loop-i.invariant.0 ∙ table-next c.args.sheet.now c.args.reaches.now i r c.reach.ensures, omega arith)
+    c.put.ensures ∙ ap (λ l. set l i r) c.loop-i.invariant ∙ table-next c.args.sheet.now c.args.reaches.now i r c.reach.ensures
 
 pub returns : goal.returns
-returns c = ap (map reach_says) c.loop-i.invariant.0 ∙ table_filled c.args.sheet.now c.args.reaches.now c.args.count c.loop-i.i (omega arith)
+returns c = ap (map reach_says) c.loop-i.invariant ∙ table_filled c.args.sheet.now c.args.reaches.now c.args.count c.loop-i.i (omega arith)

@@ -4,8 +4,7 @@ use native.Mathlib.Omega.{arith}
 use Rattle.model.specs.Ranges.{most_segments}
 use Rattle.own_river_laws.proofs.Sheets.{most-segments, rows-most}
 use Rattle.own_river.specs.Ready.{OfSheet}
-use Rattle.output.proofs.Lines.{fresh-is}
-use Rattle.river.proofs.Running.{ready-begun, begun-alike, begun-steps, put_whole}
+use Rattle.river.proofs.Running.{ready-begun, begun-alike, begun-steps, put_lines}
 use Rattle.river.proofs.put_listing.Goals as goal
 
 pub start-river-requires : goal.start-river-requires
@@ -14,16 +13,17 @@ start-river-requires c =
       record { passed = c.requires; count = c.segment_count-n.ensures },
       omega (arith, few),
       record { channel = omega (arith, few); storage = omega (arith, few); sediment = omega (arith, few) },
-      rw c.upstream_at.ensures (rows-most _ c.requires _),
+      rw c.upstream_at-u.ensures (rows-most _ c.requires _),
     )
 
 pub run-requires : goal.run-requires
 run-requires c =
     let few : c.segment_count-n.result ≤ most_segments = rw c.segment_count-n.ensures (most-segments _ c.requires) in
     let of_sheet : OfSheet c.args.sheet.now c.segment_count-n.result = record { passed = c.requires; count = c.segment_count-n.ensures } in
-    (ready-begun _ of_sheet c.start-river.ensures (omega (arith, few)) (omega (arith, few)), rw (begun-steps c.start-river.ensures) zero-le)
+    let begun = c.start-river.ensures.begun in
+    (ready-begun _ of_sheet begun (omega (arith, few)) (omega (arith, few)), rw (begun-steps begun) zero-le)
 
 pub returns : goal.returns
 returns c =
-    put_whole _ c.requires (begun-steps c.start-river.ensures) (begun-alike c.upstream_at.ensures c.start-river.ensures)
-    (rw (fresh-is c.new.ensures) at c.put_heading-out.ensures) c.run.ensures
+    let begun = c.start-river.ensures.begun in
+    put_lines _ c.requires (begun-steps begun) (begun-alike c.upstream_at-u.ensures begun) c.put_heading.ensures c.run.ensures

@@ -1,59 +1,57 @@
-use mathlib.Core.Path.{ap}
-use Prim.Native.Nat.{◌-◌}
+use mathlib.Core.Path.{sym, ◌∙◌}
+use mathlib.Core.Bool.{true≢false}
+use Prim.Native.Nat.{◌+◌}
 use native.Mathlib.Omega.{arith}
+use Rattle.terms.specs.Lent.{state_lent, working_lent}
 use Rattle.own_river_laws.proofs.Sheets.{rows-most}
-use Rattle.output.proofs.Lines.{puts-length}
-use Rattle.river.proofs.Running.{going_start, below-most, due-less, going-turn, going_end, shown}
+use Rattle.river.proofs.Running.{Ending, going_start, below-most, going-turn, going_end, shown}
 use Rattle.river.proofs.run.Goals as goal
+use Rattle.river.proofs.run.Goals.{else-loop-done-test, then-loop-done-test+then-out}
 
-pub overflow_sub-left : goal.overflow_sub-left
-overflow_sub-left c = omega (arith, c.requires.1, c.steps-most.ensures)
-
-pub loop-left-init : goal.loop-left-init
-loop-left-init c = going_start c.requires.0 c.requires.1 (ap (λ m. m - c.args.river.steps) c.steps-most.ensures)
-
-pub overflow_add-river : goal.overflow_add-river
-overflow_add-river c = omega (arith, below-most c.loop-left.invariant (omega (arith, c.loop-left-test.true)))
+pub loop-done-init : goal.loop-done-init
+loop-done-init c = going_start c.requires.0
 
 pub step-river-requires : goal.step-river-requires
 step-river-requires c =
-    let g = c.loop-left.invariant in
-    (g.ready, below-most g (omega (arith, c.loop-left-test.true)), rw c.upstream_at-u.ensures (rows-most _ g.ready.of_sheet.passed _))
+    let going = c.loop-done.invariant in
+    (going.ready, below-most going (omega (arith, c.steps-most.ensures, c.loop-done-test.true)), rw c.upstream_at-u.ensures (rows-most _ going.ready.of_sheet.passed _))
 
-pub put_lines-out-requires : goal.put_lines-out-requires
-put_lines-out-requires c = shown c.step-river.ensures.ready _ c.kd.ensures
+pub put_lines-requires : goal.put_lines-requires
+put_lines-requires c =
+    let read = c.read.ensures in
+    rw (read.channel, read.storage, read.sediment) (shown c.step-river.ensures.stepped.ready c.kd.result.now c.kd.ensures)
 
-pub overflow_sub-left-in-loop-left : goal.overflow_sub-left-in-loop-left
-overflow_sub-left-in-loop-left c = omega (arith, c.loop-left-test.true)
-
-pub loop-left-smaller : goal.loop-left-smaller
-loop-left-smaller c =
-    due-less c.put_lines-out.result.failed c.loop-left.left c.due-left.ensures (omega (arith, c.loop-left-test.true))
-
-pub loop-left-preserved : goal.loop-left-preserved
-loop-left-preserved c =
-    going-turn c.loop-left.invariant (omega (arith, c.loop-left-test.true)) c.upstream_at-u.ensures c.step-river.ensures c.put_lines-out.ensures c.due-left.ensures
-
-pub shape_of-sides : goal.shape_of-sides
-shape_of-sides c = c.loop-left.invariant.sides_long
-
-pub shape_of-channel : goal.shape_of-channel
-shape_of-channel c = c.loop-left.invariant.lengths.channel
-
-pub shape_of-storage : goal.shape_of-storage
-shape_of-storage c = c.loop-left.invariant.lengths.storage
-
-pub shape_of-sediment : goal.shape_of-sediment
-shape_of-sediment c = c.loop-left.invariant.lengths.sediment
-
-pub shape_of-p : goal.shape_of-p
-shape_of-p c = c.loop-left.invariant.lengths.p
-
-pub shape_of-y : goal.shape_of-y
-shape_of-y c = c.loop-left.invariant.lengths.y
+pub loop-done-preserved : goal.loop-done-preserved
+loop-done-preserved c =
+    let read = c.read.ensures in
+    let lines = rw (read.channel, read.storage, read.sediment) at c.put_lines.ensures in
+    going-turn c.loop-done.invariant c.upstream_at-u.ensures c.step-river.ensures.stepped lines
 
 pub returns : goal.returns
-returns c = going_end c.loop-left.invariant (omega (arith, c.loop-left-test.false)) c.put_done.ensures
-
-pub shape_of-buffer : goal.shape_of-buffer
-shape_of-buffer c = puts-length (returns c).lines.puts
+returns c =
+    let end = c.loop-done-test in
+    let a = c.args in
+    let l = c.loop-done in
+    let ending : Ending a.sheet.now a.n a.sides.now (state_lent a.state.now a.river.upstream a.river.steps) (working_lent a.working.now) a.out.now
+    end.sides (state_lent end.state end.river.upstream end.river.steps) (working_lent end.working) end.out =
+    elim end.branch [
+      | else-loop-done-test w ↦
+          rw (w.river-is, w.sides-is, w.state-is, w.working-is, w.out-is)
+          (record {
+            steps = l.done;
+            going = l.invariant;
+            few = omega (arith, c.steps-most.ensures, l.auto.done-end);
+            all = λ q. omega (arith, c.steps-most.ensures, w.loop-done-test.false);
+          })
+      | then-loop-done-test+then-out w ↦
+          let read = w.read.ensures in
+          let lines = rw (read.channel, read.storage, read.sediment) at w.put_lines.ensures in
+          rw (w.river-is, w.sides-is, w.state-is, w.working-is, w.out-is)
+          (record {
+            steps = l.done + 1;
+            going = going-turn l.invariant w.upstream_at-u.ensures w.step-river.ensures.stepped lines;
+            few = omega (arith, c.steps-most.ensures, w.loop-done-test.true);
+            all = λ q. absurd (true≢false (sym w.if-out.true ∙ q));
+          })
+    ] in
+    going_end ending c.put_done.ensures

@@ -1,13 +1,9 @@
 -- `run` meets its contract: the lines put are those of the steps made.
-use Rattle.lists.specs.Lent.{plain}
-use Rattle.terms.specs.Lent.{state, working}
+use Rattle.terms.specs.Lent.{state_lent, working_lent}
 use Rattle.river.proofs.Running.{Going}
 use Rattle.river.proofs.run.Given as goal
 
-abbrev pub invariant-loop-left : goal.invariant-loop-left
-invariant-loop-left l =
-    Going l.sheet l.n l.initial.sides (state plain l.initial.channel l.initial.storage l.initial.sediment l.initial.river.upstream l.initial.river.steps) (working plain l.initial.p l.initial.y) l.initial.out l.initial.buffer
-    l.sides (state plain l.channel l.storage l.sediment l.river.upstream l.river.steps) (working plain l.p l.y) l.out l.buffer l.left
-
-abbrev pub decreases-loop-left : goal.decreases-loop-left
-decreases-loop-left l = l.left
+abbrev pub invariant-loop-done : goal.invariant-loop-done
+invariant-loop-done l =
+    Going l.sheet l.n l.initial.sides (state_lent l.initial.state l.initial.river.upstream l.initial.river.steps) (working_lent l.initial.working) l.initial.out
+    l.sides (state_lent l.state l.river.upstream l.river.steps) (working_lent l.working) l.out l.done

@@ -1,14 +1,16 @@
--- `alone` meets its contract.
-use Rattle.search.proofs.Answers.{lists-long, refused-13, found-by}
+use Rattle.std.proofs.Common.{◌≡◌, Err, sym, ap, ◌∙◌, rules}
+use Rattle.model.specs.Refusals.{test}
+use Rattle.model.proofs.Refusals.{test-clear}
+use Rattle.search.proofs.Answers.{searches-refused, searches-found, alone-tests, lists-long}
 use Rattle.search.proofs.alone.Goals as goal
 
-pub returns-then-fault : goal.returns-then-fault
-returns-then-fault c = refused-13 _ _ _ _ _ c.fault.ensures c.if-fault.true
+pub returns-in_err-test : goal.returns-in_err-test
+returns-in_err-test c =
+    let e : c.from_residual.result ≡ Err c.in_err-test.field-0.0 = search rules in
+    rw e (searches-refused _ _ _ _ _ _ (alone-tests _ _ _ ∙ ap (test 13) (sym c.fault.ensures) ∙ sym c.in_err-test.ensures))
 
 pub find-requires : goal.find-requires
-find-requires c =
-    lists-long c.args.n c.args.channel.now c.args.highest.now c.args.limit _ c.fault.ensures c.if-fault.false
+find-requires c = lists-long _ _ _ (sym c.fault.ensures ∙ test-clear 13 _ (sym c.in_ok-test.ensures))
 
 pub returns : goal.returns
-returns c =
-    found-by _ _ _ _ _ c.fault.ensures c.if-fault.false c.find.result c.find.ensures
+returns c = searches-found _ _ _ _ _ _ (alone-tests _ _ _ ∙ ap (test 13) (sym c.fault.ensures) ∙ sym c.in_ok-test.ensures) c.find.ensures

@@ -1,18 +1,10 @@
--- `find` meets its contract: the loop over a block's segments inside the one over the blocks.
-use mathlib.Core.Path.{◌≡◌}
-use Prim.Native.Nat.{◌+◌, ◌-◌, ◌*◌, ◌≤◌}
-use Rattle.search.specs.declared.Search.TheVariants.{Nothing}
-use Rattle.search.proofs.Blocks.{NoneBelow}
+use Rattle.std.proofs.Common.{◌≡◌, ℕ, ◌*◌, ◌<◌, None}
+use Rattle.model.specs.Search.{Above}
 use Rattle.search.proofs.find.Given as goal
 
+-- none of the first segments is above in a block that is
 abbrev pub invariant-loop-i : goal.invariant-loop-i
-invariant-loop-i l = (l.found ≡ Nothing) × (l.from ≤ l.i) × (l.i ≤ l.from + 16) × NoneBelow l.n l.channel l.highest l.limit l.i
+invariant-loop-i l = record { not_yet : l.found ≡ None; none : (k : ℕ) → k < l.i → Above l.n l.channel l.highest l.limit k → ⊥ }
 
 abbrev pub invariant-blocks-2 : goal.invariant-blocks-2
-invariant-blocks-2 l = (l.found ≡ Nothing) × (l.from ≡ l.b * 16) × (l.from ≤ l.n + 15) × NoneBelow l.n l.channel l.highest l.limit l.from
-
-abbrev pub decreases-loop-i : goal.decreases-loop-i
-decreases-loop-i l = l.n - l.i
-
-abbrev pub decreases-blocks-2 : goal.decreases-blocks-2
-decreases-blocks-2 l = l.n - l.from
+invariant-blocks-2 l = record { not_yet : l.found ≡ None; none : (k : ℕ) → k < l.b * 16 → Above l.n l.channel l.highest l.limit k → ⊥ }

@@ -4,4 +4,4 @@ use Rattle.sweep.proofs.pair_at.Goals as goal
 
 pub returns : goal.returns
 unfolding pair_at
-returns c = rw (c.at.ensures, c.at-2.ensures)
+returns c = rw (c.numbers_at.ensures, c.numbers_at-2.ensures)

@@ -3,7 +3,7 @@ use Rattle.sweep.proofs.Passes.{up-ready, step_end}
 use Rattle.sweep.proofs.step.Goals as goal
 
 pub upward-requires : goal.upward-requires
-upward-requires c = up-ready c.requires c.downward.ensures
+upward-requires c = up-ready c.requires c.downward.ensures.lists
 
-pub returns : goal.returns
-returns c = step_end c.requires c.downward.ensures c.upward.ensures
+pub returns-clause-lists : goal.returns-clause-lists
+returns-clause-lists c = step_end c.requires c.downward.ensures.lists c.upward.ensures.lists

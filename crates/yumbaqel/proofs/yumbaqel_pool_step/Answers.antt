@@ -1,7 +1,7 @@
 -- `yumbaqel_pool_step` meets its contract.
-use Rattle.yumbaqel.proofs.Handed.{told-left}
+use Rattle.otis.specs.Says.{river_says}
+use Rattle.yumbaqel.proofs.Handed.{told-left, found-by}
 use Rattle.yumbaqel.proofs.yumbaqel_pool_step.Goals as goal
 
 pub returns : goal.returns
-returns c =
-    told-left c.step-answer.ensures (rw c.finding_of.ensures at c.put_finding.ensures)
+returns c = told-left c.step-answer.ensures (rw (found-by river_says c.step-answer.result) at c.tell.ensures.told)

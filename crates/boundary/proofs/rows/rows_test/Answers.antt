@@ -1,32 +1,23 @@
 -- `rows::rows_test` meets its contract: the tests of the count and of the rows, in their order.
 use mathlib.Core.Path.{sym, ◌∙◌}
-use native.Mathlib.Numerals.{add-one}
 use native.Mathlib.Omega.{arith}
-use Rattle.model.specs.Refusals.{row}
+use Rattle.std.proofs.lemmas.Result.{err_from_is_err_and}
 use Rattle.model.specs.Upstream.{upstream_tests}
-use Rattle.model.proofs.Refusals.{each-fails, each-passes}
-use Rattle.boundary.proofs.RowLaws.{counted}
+use Rattle.model.proofs.Refusals.{test-clear}
+use Rattle.sheet.proofs.Tests.{failed}
+use Rattle.boundary.proofs.RowLaws.{first_one, counted}
 use Rattle.boundary.proofs.rows.rows_test.Goals as goal
 
-pub returns-then-count_fault : goal.returns-then-count_fault
+pub returns-in_err-test : goal.returns-in_err-test
 unfolding upstream_tests
-returns-then-count_fault c = rw (sym c.count_fault.ensures ∙ c.if-count_fault.true)
+returns-in_err-test c =
+    let p = err_from_is_err_and c.from_residual.result c.from_residual.ensures.1 in
+    let f = failed c.in_err-test.ensures in
+    rw (p.1, p.2, f.1, sym c.count_fault.ensures ∙ f.0)
 
-pub row_at_fault-i-requires : goal.row_at_fault-i-requires
-row_at_fault-i-requires c = omega (arith, counted _ _ (sym c.count_fault.ensures ∙ c.if-count_fault.false))
-
-pub overflow_cast-result : goal.overflow_cast-result
-overflow_cast-result c = omega (arith, counted _ _ (sym c.count_fault.ensures ∙ c.if-count_fault.false))
-
-pub overflow_add-result : goal.overflow_add-result
-overflow_add-result c = omega (arith, counted _ _ (sym c.count_fault.ensures ∙ c.if-count_fault.false))
-
-pub returns-then-i-starts : goal.returns-then-i-starts
-unfolding upstream_tests
-returns-then-i-starts c =
-    let i = c.row_at_fault-i.ensures in
-    rw ((sym c.count_fault.ensures ∙ c.if-count_fault.false), each-fails 8 row _ _ (rw i at c.if-i-starts.true), ← i, add-one)
+pub each_row_test-requires : goal.each_row_test-requires
+each_row_test-requires c = omega (arith, counted _ _ (sym c.count_fault.ensures ∙ test-clear 3 _ (sym c.in_ok-test.ensures)))
 
 pub returns : goal.returns
 unfolding upstream_tests
-returns c = rw ((sym c.count_fault.ensures ∙ c.if-count_fault.false), each-passes 8 row _ _ (rw c.row_at_fault-i.ensures at c.if-i-starts.false))
+returns c = rw (c.each_row_test.ensures, sym c.count_fault.ensures ∙ test-clear 3 _ (sym c.in_ok-test.ensures)) (first_one _)

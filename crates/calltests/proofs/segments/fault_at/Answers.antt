@@ -6,4 +6,4 @@ use Rattle.calltests.proofs.segments.fault_at.Goals as goal
 
 pub returns : goal.returns
 unfolding segment_at
-returns c = sym (start-fault-at _ _ _ _ (rw (← c.at-x.ensures) (sym c.segment_fault.ensures)))
+returns c = sym (start-fault-at _ _ _ _ (rw (← c.numbers_at.ensures) (sym c.segment_fault.ensures)))

@@ -8,12 +8,12 @@ use Rattle.calltests.proofs.segments.river_fault.Goals as goal
 
 pub returns-then-outside : goal.returns-then-outside
 unfolding river_fault
-returns-then-outside c = rw (sym c.outside.ensures ∙ c.if-outside.true)
+returns-then-outside c = rw (sym (rw c.from.ensures at c.outside.ensures) ∙ c.if-outside.true)
 
-pub returns-then-set_short : goal.returns-then-set_short
-returns-then-set_short c = sym (river-set _ _ _ (sym c.outside.ensures ∙ c.if-outside.false) (sym c.set_short.ensures ∙ c.if-set_short.true))
+pub returns-then-is_shorter : goal.returns-then-is_shorter
+returns-then-is_shorter c = sym (river-set _ _ _ (sym (rw c.from.ensures at c.outside.ensures) ∙ c.if-outside.false) (sym c.is_shorter.ensures ∙ c.if-is_shorter.true))
 
 pub returns : goal.returns
 returns c =
     c.any_short.ensures ∙ under-lengths _ (_ ∷ _ ∷ _ ∷ _ ∷ _ ∷ _ ∷ _ ∷ [])
-    ∙ sym (river-others _ _ _ (sym c.outside.ensures ∙ c.if-outside.false) (sym c.set_short.ensures ∙ c.if-set_short.false))
+    ∙ sym (river-others _ _ _ (sym (rw c.from.ensures at c.outside.ensures) ∙ c.if-outside.false) (sym c.is_shorter.ensures ∙ c.if-is_shorter.false))

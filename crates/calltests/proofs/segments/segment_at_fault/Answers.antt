@@ -1,16 +1,13 @@
-use mathlib.Core.Path.{sym, ◌∙◌}
-use Prim.Native.Nat.{◌-◌}
-use Rattle.lists.proofs.Lowest.{searching-start, searching-hit, searching-miss, searching-end}
+use Rattle.std.specs.Prelude.{ℕ, Bool, ◌≡◌, true, false}
+use Rattle.std.proofs.Common.{rules}
+use Rattle.std.proofs.lemmas.Iterator.{first_from_Range}
+use Rattle.model.specs.Calls.{start_fault}
+use Rattle.terms.specs.Lent.{columns_of}
+use Rattle.calltests.proofs.Found.{below-first}
 use Rattle.calltests.proofs.segments.segment_at_fault.Goals as goal
 
-pub loop-i-init : goal.loop-i-init
-loop-i-init c = searching-start
-
-pub returns-then-fault_at : goal.returns-then-fault_at
-returns-then-fault_at c = searching-hit c.loop-i.invariant c.loop-i-test.true (sym c.fault_at.ensures ∙ c.if-fault_at.true)
-
-pub loop-i-preserved : goal.loop-i-preserved
-loop-i-preserved c = searching-miss c.loop-i.invariant c.loop-i-test.true (sym c.fault_at.ensures ∙ c.if-fault_at.false)
-
 pub returns : goal.returns
-returns c = searching-end c.loop-i.invariant c.loop-i-test.false
+returns c =
+    let fault : ℕ → Bool = start_fault c.args.n (columns_of c.args.columns) in
+    below-first fault c.args.n c.find.result
+    (first_from_Range _ _ _ c.find.result (λ i. fault i ≡ true) (λ i. fault i ≡ false) c.find.ensures.ran (λ x q k. search rules) (λ x q k. search rules))

@@ -1,4 +1,4 @@
--- `Site::numbers` meets its contract: each number is cut off one part above one whole (`Cut`). Assumes nothing.
+-- `Site::numbers` meets its contract: each number is cut off one part above one whole (`Cut`).
 use Rattle.model.specs.HalfStep.{fractions, numbers}
 use Rattle.halfstep.specs.Site.{site_says}
 use Rattle.halfstep.proofs.Sums.{alike-cut, stand-for}
@@ -11,12 +11,12 @@ returns c =
     (record {
       e = alike-cut c.e.ensures;
       g = alike-cut c.g.ensures;
-      l = alike-cut c.inflow.ensures;
+      l = alike-cut c.l.ensures;
       a = alike-cut c.rate.ensures;
-      b = alike-cut c.exchange.ensures;
+      b = alike-cut c.b.ensures;
       k = alike-cut c.rate-2.ensures;
       ks = alike-cut c.rate-3.ensures;
       h = alike-cut c.rate-h.ensures;
       m = alike-cut c.rate-4.ensures;
-      s = λ small. alike-cut (c.sorption.ensures small);
+      s = λ small. alike-cut (c.s.ensures small);
     })

@@ -1,21 +1,21 @@
--- `River::report` meets its contract. In each answer `d` is the place behind the tests.
-use mathlib.Core.Path.{sym, ap, ◌∙◌}
-use Rattle.terms.specs.Says.{finding_says}
+-- `River::report` meets its contract.
+use mathlib.Core.Path.{sym}
+use Rattle.std.proofs.lemmas.Result.{err_from_is_err_and}
 use Rattle.otis.proofs.Reporting.{report-reads, report-accepted, report-refused}
 use Rattle.otis.proofs.River.report.Goals as goal
 
-pub overflow_sub-i : goal.overflow_sub-i
-overflow_sub-i c = (report-reads _ _ _ _ _ c.outside-unfit.ensures (sym c.state_test-found.ensures ∙ ap finding_says c.in-Passes.is)).from
+pub returns-in_err-state_test : goal.returns-in_err-state_test
+returns-in_err-state_test c =
+    let p = err_from_is_err_and c.from_residual.result c.from_residual.ensures.1 in
+    rw (p.1, p.2) (report-refused _ _ _ _ _ (rw c.from.ensures at c.outside-unfit.ensures) _ _ (sym c.in_err-state_test.ensures))
+
+pub overflow_sub-segment : goal.overflow_sub-segment
+overflow_sub-segment c = (report-reads _ _ _ _ _ (rw c.from.ensures at c.outside-unfit.ensures) (sym c.in_ok-state_test.ensures)).from
 
 pub figures_at-requires : goal.figures_at-requires
 figures_at-requires c =
-    let r = report-reads _ _ _ _ _ c.outside-unfit.ensures (sym c.state_test-found.ensures ∙ ap finding_says c.in-Passes.is) in
+    let r = report-reads _ _ _ _ _ (rw c.from.ensures at c.outside-unfit.ensures) (sym c.in_ok-state_test.ensures) in
     (r.kd, r.channel, r.storage, r.sediment)
 
-pub returns-in-Passes : goal.returns-in-Passes
-returns-in-Passes c =
-    report-accepted _ _ _ _ _ c.outside-unfit.ensures (sym c.state_test-found.ensures ∙ ap finding_says c.in-Passes.is) _ c.figures_at.ensures
-
-pub returns-in-Fails : goal.returns-in-Fails
-returns-in-Fails c =
-    report-refused _ _ _ _ _ c.outside-unfit.ensures _ _ (sym c.state_test-found.ensures ∙ ap finding_says c.in-Fails.is)
+pub returns : goal.returns
+returns c = report-accepted _ _ _ _ _ (rw c.from.ensures at c.outside-unfit.ensures) (sym c.in_ok-state_test.ensures) _ c.figures_at.ensures

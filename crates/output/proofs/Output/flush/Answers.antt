@@ -1,11 +1,17 @@
 -- `Output::flush` meets its contract: the write that is due lies within the buffer.
-use mathlib.Core.Path.{sym}
-use lib.Seq.{length-take-le}
-use Rattle.output.proofs.Putting.{due-within, flushed}
+use mathlib.Core.Path.{◌∙◌}
+use Rattle.output.proofs.Putting.{due-within, due-not_all, flushed}
 use Rattle.output.proofs.Output.flush.Goals as goal
+use Rattle.output.proofs.Output.flush.Goals.{then-written, else-written}
 
-pub slice_bounds-write_to-end : goal.slice_bounds-write_to-end
-slice_bounds-write_to-end c = sym (length-take-le _ _ (rw c.due-due.ensures (due-within _ _)))
+pub write-written-requires : goal.write-written-requires
+write-written-requires c = rw c.due-due.ensures (due-within _)
 
 pub returns : goal.returns
-returns c = flushed c.write_to-written.result (rw c.due-due.ensures at c.after_write.ensures)
+returns c =
+    let after = c.after_write.ensures in
+    flushed c.if-written.after_write after.used after.failed after.buffer
+    (λ h. elim c.if-written.branch [
+      | then-written w ↦ w.after_write-is ∙ rw c.due-due.ensures (due-not_all c.args.self.now h)
+      | else-written w ↦ w.after_write-is ∙ w.if-written.false
+    ])

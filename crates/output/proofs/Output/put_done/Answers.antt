@@ -8,4 +8,4 @@ use Rattle.output.proofs.Output.put_done.Goals as goal
 pub returns : goal.returns
 unfolding done
 returns c =
-    put-line (length-done _ (omega (arith, c.ranges.steps))) c.room-at.ensures (put_then c.put_text-at.ensures c.put_number.ensures)
+    put-line (length-done _ (omega (arith, c.ranges.steps))) c.room.ensures (put_then c.put_text.ensures (rw c.from.ensures at c.put_number.ensures))

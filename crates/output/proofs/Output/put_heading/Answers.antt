@@ -6,4 +6,4 @@ use Rattle.output.proofs.Output.put_heading.Goals as goal
 
 pub returns : goal.returns
 unfolding heading
-returns c = put-line (omega arith) c.room-at.ensures c.put_text.ensures
+returns c = put-line (omega arith) c.room.ensures c.put_text.ensures

@@ -9,8 +9,8 @@ pub returns : goal.returns
 unfolding line
 returns c =
     let fits = c.ranges in
-    let two = put_then c.put_number-at.ensures c.put_number-at-2.ensures in
-    let four = put_then (put_then two c.put_number-at-3.ensures) c.put_number-at-4.ensures in
+    let two = put_then (rw c.from.ensures at c.put_number.ensures) (rw c.from-2.ensures at c.put_number-2.ensures) in
+    let four = put_then (put_then two (rw c.from-3.ensures at c.put_number-3.ensures)) (rw c.from-4.ensures at c.put_number-4.ensures) in
     put-line
     (length-line _ _ _ _ _
     (omega (arith, fits.step))
@@ -18,5 +18,5 @@ returns c =
     (omega (arith, fits.channel))
     (omega (arith, fits.storage))
     (omega (arith, fits.sediment)))
-    c.room-at.ensures
-    (put_then four c.put_number.ensures)
+    c.room.ensures
+    (put_then four c.put_number-5.ensures)

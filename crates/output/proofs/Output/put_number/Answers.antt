@@ -9,4 +9,4 @@ pub returns : goal.returns
 unfolding ended
 returns c =
     let d = c.decimal-count.ensures in
-    put_then (rw (d.digits ∙ fewest-decimal _ _ d.len) at c.put_text-at.ensures) c.put_byte.ensures
+    put_then (rw (d.digits ∙ fewest-decimal _ _ d.len) at c.put_text.ensures) c.put_text-2.ensures

@@ -8,4 +8,4 @@ use Rattle.output.proofs.Output.put_refused.Goals as goal
 pub returns : goal.returns
 unfolding refused
 returns c =
-    put-line (length-refused _ (omega (arith, c.ranges.number))) c.room-at.ensures (put_then c.put_text-at.ensures c.put_number.ensures)
+    put-line (length-refused _ (omega (arith, c.ranges.number))) c.room.ensures (put_then c.put_text.ensures (rw c.from.ensures at c.put_number.ensures))

@@ -1,27 +1,21 @@
-use mathlib.Core.Path.{ap, ◌∙◌}
-use Prim.Native.Nat.{◌<◌}
-use native.Mathlib.Numerals.{add-one}
+-- `Output::put_text` meets its contract: what has room is copied, and past the end nothing would be stored.
+use mathlib.Core.Path.{refl, sym}
 use native.Mathlib.Omega.{arith}
-use lib.ListN.{length}
-use lib.Seq.{take-suc, take_all, length-sets}
-use Rattle.output.proofs.Putting.{put-none, put_then}
+use Rattle.output.proofs.Putting.{copied, sets-out}
 use Rattle.output.proofs.Output.put_text.Goals as goal
 
-pub loop-i-init : goal.loop-i-init
-loop-i-init c = (put-none, omega arith)
+pub returns-then-used-size : goal.returns-then-used-size
+returns-then-used-size c = record {
+  used = omega (arith, c.min-count.ensures);
+  failed = refl;
+  bytes = rw c.copy_from_slice.ensures.after (copied _ _ _ c.min-count.ensures c.if-used-size.true);
+  reference = refl;
+}
 
-pub loop-i-preserved : goal.loop-i-preserved
-loop-i-preserved c =
-    let s = c.loop-i in
-    let t = c.args.text.now in
-    let more : s.i < length t = omega arith in
-    (rw (add-one, take-suc t s.i 0) (put_then s.invariant.0 c.put_byte-at.ensures), omega arith)
-
-pub shape_of-buffer : goal.shape_of-buffer
-shape_of-buffer c = ap length c.loop-i.invariant.0.bytes ∙ simp length-sets
-
-pub returns : goal.returns
-returns c =
-    let s = c.loop-i in
-    let t = c.args.text.now in
-    rw (take_all s.i t (omega arith)) at s.invariant.0
+pub returns-else-used-size : goal.returns-else-used-size
+returns-else-used-size c = record {
+  used = omega (arith, c.if-used-size.false);
+  failed = refl;
+  bytes = sym (sets-out c.args.text.now _ _ c.if-used-size.false);
+  reference = refl;
+}

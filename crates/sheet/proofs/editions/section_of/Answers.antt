@@ -32,26 +32,23 @@ behind a b d true true n (suc (suc (suc (suc k)))) h = same n k
 behind a b d true false n (suc (suc (suc (suc k)))) h = refl
 behind a b d false has n (suc (suc (suc (suc k)))) h = refl
 
-pub reach_section-requires : goal.reach_section-requires
-reach_section-requires c = tt
-
 pub returns-in-0 : goal.returns-in-0
 unfolding sections
-returns-in-0 c = (λ s e h. rw c.in-0.is c.reach_section.ensures.0, c.reach_section.ensures.1)
+returns-in-0 c = (λ s h. rw c.in-0.is, omega arith)
 
 pub returns-in-1 : goal.returns-in-1
 unfolding sections
-returns-in-1 c = (λ s e h. rw c.in-1.is, omega arith)
+returns-in-1 c = (λ s h. rw c.in-1.is, omega arith)
 
 pub returns-in-2 : goal.returns-in-2
 unfolding sections
-returns-in-2 c = (λ s e h. rw c.in-2.is, omega arith)
+returns-in-2 c = (λ s h. rw c.in-2.is, omega arith)
 
 pub returns-in-3 : goal.returns-in-3
 unfolding sections
-returns-in-3 c = (λ s e h. rw c.in-3.is (fourth (leb 2 (edition s)) _ (rw c.in-3.is at h)), omega arith)
+returns-in-3 c = (λ s h. rw c.in-3.is (fourth (leb 2 (edition s)) _ (rw c.in-3.is at h)), omega arith)
 
 pub returns-in_default : goal.returns-in_default
 unfolding sections
 returns-in_default c =
-    (λ s e h. behind _ _ _ (leb 2 (edition s)) (leb 3 (edition s)) (reach_count s) c.args.k (omega arith), omega arith)
+    (λ s h. behind _ _ _ (leb 2 (edition s)) (leb 3 (edition s)) (reach_count s) c.args.k (omega arith), omega arith)

@@ -1,34 +1,23 @@
-use mathlib.Core.Path.{sym, ◌∙◌}
 use native.Mathlib.Omega.{arith}
 use Rattle.model.specs.Refusals.{row}
-use Rattle.sheet.proofs.Entries.{passing-start, passing-miss}
+use Rattle.sheet.specs.Entries.{fault_of}
+use Rattle.sheet.proofs.Entries.{passing-start, passing-miss, breaks, keeps}
 use Rattle.sheet.proofs.Tests.{each-found, each-clear}
 use Rattle.sheet.proofs.faults.entries_test.Goals as goal
-
-pub count_of-count-requires : goal.count_of-count-requires
-count_of-count-requires c = tt
 
 pub loop-j-init : goal.loop-j-init
 loop-j-init c = passing-start
 
-pub judge-x-requires : goal.judge-x-requires
-judge-x-requires c = omega arith
-
-pub overflow_add-result : goal.overflow_add-result
-overflow_add-result c = omega arith
-
-pub returns-then-x : goal.returns-then-x
-returns-then-x c = each-found _ row c.loop-j.invariant.searching (omega arith) (sym (c.judge-x.ensures.1 c.loop-j.invariant.last) ∙ c.if-x.true)
-
-pub overflow_add-j : goal.overflow_add-j
-overflow_add-j c = omega arith
-
-pub loop-j-smaller : goal.loop-j-smaller
-loop-j-smaller c = omega arith
+pub returns-in_default : goal.returns-in_default
+returns-in_default c =
+    let p = c.loop-j.invariant in
+    rw (c.at.ensures, c.fault.ensures)
+    (each-found _ row p.searching (omega arith) (breaks (fault_of c.args.entries c.args.sheet.now c.loop-j.j) _ (c.in_default.ensures p.last)))
 
 pub loop-j-preserved : goal.loop-j-preserved
 loop-j-preserved c =
-    passing-miss c.loop-j.invariant (omega arith) (sym (c.judge-x.ensures.1 c.loop-j.invariant.last) ∙ c.if-x.false) c.judge-x.ensures.0
+    let p = c.loop-j.invariant in
+    let k = keeps (fault_of c.args.entries c.args.sheet.now c.loop-j.j) (c.in-Some.ensures p.last) in passing-miss p (omega arith) k.0 k.1
 
 pub returns : goal.returns
 returns c = each-clear _ row c.loop-j.invariant.searching (omega arith)

@@ -2,22 +2,15 @@
 use Rattle.model.specs.Load.{flow_row_fault}
 use Rattle.sheet.proofs.faults.flow_row_fault.Goals as goal
 
-pub outside-late-requires : goal.outside-late-requires
-outside-late-requires c = tt
-
-pub not_rising-requires : goal.not_rising-requires
-not_rising-requires c = tt
-
-pub outside-requires : goal.outside-requires
-outside-requires c = tt
-
 pub returns : goal.returns
 unfolding flow_row_fault
-returns c = λ starts tops row.
+returns c = λ starts tops j row.
     rw (
       c.outside-late.ensures,
-      c.not_rising.ensures starts row.before_is row.start_is,
+      c.from.ensures,
+      c.not_rising.ensures starts j row.before_is row.start_is,
       c.outside.ensures,
+      c.from-2.ensures,
       row.start_is,
       row.figure_is,
     )

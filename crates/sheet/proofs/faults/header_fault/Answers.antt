@@ -16,42 +16,12 @@ same-five : {a b c d e a' b' c' d' e' : Bool} → a ≡ a' → b ≡ b' → c �
     (a || b || c || d || e) ≡ (a' || (b' || (c' || (d' || (e' || false)))))
 same-five {a} {b} {c} {d} {e} p q r s t = five a b c d e ∙ (λ i. p i || (q i || (r i || (s i || (t i || false)))))
 
-pub steps-most-requires : goal.steps-most-requires
-steps-most-requires c = tt
-
-pub dt-requires : goal.dt-requires
-dt-requires c = tt
-
-pub outside-requires : goal.outside-requires
-outside-requires c = tt
-
-pub dx-requires : goal.dx-requires
-dx-requires c = tt
-
-pub outside-requires-2 : goal.outside-requires-2
-outside-requires-2 c = tt
-
-pub outside-requires-3 : goal.outside-requires-3
-outside-requires-3 c = tt
-
-pub interval-requires : goal.interval-requires
-interval-requires c = tt
-
-pub outside-requires-4 : goal.outside-requires-4
-outside-requires-4 c = tt
-
-pub top_flow-requires : goal.top_flow-requires
-top_flow-requires c = tt
-
-pub outside-requires-5 : goal.outside-requires-5
-outside-requires-5 c = tt
-
 pub returns : goal.returns
 unfolding any_outside
 returns c =
-    let dt = c.outside.ensures ∙ ap (outside (1 to 3600)) c.dt.ensures in
-    let dx = c.outside-2.ensures ∙ ap (outside (10 to 10000)) c.dx.ensures in
-    let steps = c.outside-3.ensures ∙ ap (outside (1 to most_steps)) c.steps-most.ensures in
-    let interval = c.outside-4.ensures ∙ ap₂ (λ m. outside (1 to m)) c.steps-most.ensures c.interval.ensures in
-    let flow = c.outside-5.ensures ∙ ap (outside flows) c.top_flow.ensures in
+    let dt = c.outside.ensures ∙ ap (outside (1 to 3600)) (c.from.ensures ∙ c.dt.ensures) in
+    let dx = c.outside-2.ensures ∙ ap (outside (10 to 10000)) (c.from-2.ensures ∙ c.dx.ensures) in
+    let steps = c.outside-3.ensures ∙ ap (outside (1 to most_steps)) (c.from-3.ensures ∙ c.steps-most.ensures) in
+    let interval = c.outside-4.ensures ∙ ap₂ (λ m. outside (1 to m)) c.steps-most.ensures (c.from-4.ensures ∙ c.interval.ensures) in
+    let flow = c.outside-5.ensures ∙ ap (outside flows) (c.from-5.ensures ∙ c.top_flow.ensures) in
     same-five dt dx steps interval flow

@@ -1,12 +1,11 @@
 -- `not_rising` meets its contract: the first entry and any other. Assumes nothing.
-use native.Mathlib.Omega.{arith}
 use Rattle.lists.specs.Lists.{not_rising}
 use Rattle.lists.proofs.Shorter.{not-rising}
 use Rattle.sheet.proofs.faults.not_rising.Goals as goal
 
-pub returns-then-j-eq0 : goal.returns-then-j-eq0
+pub returns-in-None : goal.returns-in-None
 unfolding not_rising
-returns-then-j-eq0 c = λ list b v. rw c.if-j-eq0.true
+returns-in-None c = λ list j b v. rw (rw c.in-None.is at b)
 
-pub returns : goal.returns
-returns c = λ list b v. rw (not-rising list c.args.j (omega arith), v, b (omega arith))
+pub returns-in-Some : goal.returns-in-Some
+returns-in-Some c = λ list j b v. let p = rw c.in-Some.is at b in rw (not-rising list j p.0, v, p.1)

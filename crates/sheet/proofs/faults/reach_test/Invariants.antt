@@ -1,5 +1,4 @@
 -- `reach_test` meets its contract: no reach below i is at fault. Assumes nothing.
-use Prim.Native.Nat.{◌-◌}
 use Rattle.lists.proofs.Lowest.{Searching}
 use Rattle.model.specs.Ranges.{any_outside, reach_ranges}
 use Rattle.model.specs.Sheet.{edition, reach_count, reach_fields}
@@ -7,6 +6,3 @@ use Rattle.sheet.proofs.faults.reach_test.Given as goal
 
 abbrev pub invariant-loop-i : goal.invariant-loop-i
 invariant-loop-i l = Searching (λ i. any_outside (reach_ranges (edition l.sheet)) (reach_fields l.sheet i)) (reach_count l.sheet) l.i
-
-abbrev pub decreases-loop-i : goal.decreases-loop-i
-decreases-loop-i l = l.count - l.i

@@ -6,9 +6,6 @@ use Rattle.model.specs.Sheet.{section_end}
 use Rattle.sheet.proofs.BandSections.{band-first}
 use Rattle.sheet.proofs.fields.band_count_at.Goals as goal
 
-pub flow_row_count_at-requires : goal.flow_row_count_at-requires
-flow_row_count_at-requires c = tt
-
 pub returns : goal.returns
 returns c = (
   λ e. c.section_end.ensures.0 ∙ ap (λ at. section_end c.args.sheet.now at flow_section) c.flow_row_count_at.ensures.0 ∙ sym (band-first _ e),

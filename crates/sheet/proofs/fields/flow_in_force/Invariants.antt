@@ -7,6 +7,3 @@ use Rattle.sheet.proofs.fields.flow_in_force.Given as goal
 
 abbrev pub invariant-loop-r : goal.invariant-loop-r
 invariant-loop-r l = (last_begun l.j (flow_row_start l.sheet) l.r ≡ flow_in_force l.sheet l.j) × (l.r < 2 ^ 32)
-
-abbrev pub decreases-loop-r : goal.decreases-loop-r
-decreases-loop-r l = l.r

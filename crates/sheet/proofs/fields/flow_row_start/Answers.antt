@@ -2,12 +2,6 @@
 use Rattle.model.specs.Sheet.{flow_row_start}
 use Rattle.sheet.proofs.fields.flow_row_start.Goals as goal
 
-pub flow_row_count_at-requires : goal.flow_row_count_at-requires
-flow_row_count_at-requires c = tt
-
-pub record_field-requires : goal.record_field-requires
-record_field-requires c = tt
-
 pub returns : goal.returns
 unfolding flow_row_start
 returns c = rw (← c.flow_row_count_at.ensures.0) c.record_field.ensures

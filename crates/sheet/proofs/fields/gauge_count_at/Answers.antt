@@ -3,9 +3,6 @@ use native.Mathlib.Omega.{arith}
 use Rattle.model.specs.Sheet.{count_at, sections_end, sections}
 use Rattle.sheet.proofs.fields.gauge_count_at.Goals as goal
 
-pub row_count_at-requires : goal.row_count_at-requires
-row_count_at-requires c = tt
-
 pub returns : goal.returns
 unfolding count_at sections_end sections
 returns c = (rw (← c.row_count_at.ensures.0) c.section_end.ensures.0, omega arith)

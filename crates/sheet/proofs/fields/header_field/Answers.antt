@@ -5,15 +5,6 @@ use Rattle.model.specs.Sheet.{header_field}
 use Rattle.sheet.proofs.Reading.{field-far}
 use Rattle.sheet.proofs.fields.header_field.Goals as goal
 
-pub product-requires : goal.product-requires
-product-requires c = tt
-
-pub sum-requires : goal.sum-requires
-sum-requires c = tt
-
-pub field-requires : goal.field-requires
-field-requires c = tt
-
 pub returns : goal.returns
 unfolding header_field
 returns c = c.field.ensures ∙ field-far _ _ _ (omega arith) (omega arith)

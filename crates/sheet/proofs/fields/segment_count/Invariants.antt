@@ -3,11 +3,9 @@
 use mathlib.Core.Path.{◌≡◌}
 use Prim.Native.Nat.{◌+◌, ◌-◌, ◌*◌, ◌≤◌}
 use Rattle.lists.specs.Lists.{tab}
-use Rattle.model.specs.Sheet.{reach_on, total_segments, segment_count}
+use Rattle.model.specs.Sheet.{reach_count, reach_on, total_segments, segment_count}
 use Rattle.sheet.proofs.fields.segment_count.Given as goal
 
 abbrev pub invariant-loop-i : goal.invariant-loop-i
-invariant-loop-i l = (l.i ≤ l.count) × (l.total + total_segments (tab l.i (l.count - l.i) (reach_on l.sheet)) ≡ segment_count l.sheet) × (l.total ≤ 4294967295 * l.i)
-
-abbrev pub decreases-loop-i : goal.decreases-loop-i
-decreases-loop-i l = l.count - l.i
+invariant-loop-i l =
+    (l.i ≤ reach_count l.sheet) × (l.total + total_segments (tab l.i (reach_count l.sheet - l.i) (reach_on l.sheet)) ≡ segment_count l.sheet) × (l.total ≤ 4294967295 * l.i)

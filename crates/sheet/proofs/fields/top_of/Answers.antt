@@ -4,17 +4,8 @@ use native.Mathlib.Omega.{arith}
 use Rattle.sheet.proofs.Flows.{top-first, top-row}
 use Rattle.sheet.proofs.fields.top_of.Goals as goal
 
-pub top_flow-requires : goal.top_flow-requires
-top_flow-requires c = tt
-
 pub returns-then-r-eq0 : goal.returns-then-r-eq0
 returns-then-r-eq0 c = c.top_flow.ensures ∙ top-first _ _ c.if-r-eq0.true
-
-pub overflow_sub-r : goal.overflow_sub-r
-overflow_sub-r c = omega arith
-
-pub flow_row_top-requires : goal.flow_row_top-requires
-flow_row_top-requires c = tt
 
 pub returns : goal.returns
 returns c = c.flow_row_top.ensures ∙ top-row _ _ (omega arith)

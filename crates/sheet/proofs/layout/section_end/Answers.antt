@@ -9,27 +9,6 @@ use Rattle.sheet.proofs.layout.section_end.Goals as goal
 few : (w n : ℕ) → w < 32 → n < 2 ^ 32 → w * n ≤ 31 * 2 ^ 32
 few w n narrow short = mul-le-mul (let h : w ≤ 31 = omega arith in h) (let h : n ≤ 2 ^ 32 = omega arith in h)
 
-pub overflow_add-result : goal.overflow_add-result
-overflow_add-result c = omega arith
-
-pub overflow_cast-result : goal.overflow_cast-result
-overflow_cast-result c = omega arith
-
-pub field-requires : goal.field-requires
-field-requires c = tt
-
-pub overflow_cast-result-2 : goal.overflow_cast-result-2
-overflow_cast-result-2 c = omega arith
-
-pub overflow_mul-result : goal.overflow_mul-result
-overflow_mul-result c = omega (arith, few c.args.section.width c.field.result (omega arith) (omega arith))
-
-pub overflow_mul-result-2 : goal.overflow_mul-result-2
-overflow_mul-result-2 c = omega (arith, few c.args.section.width c.field.result (omega arith) (omega arith))
-
-pub overflow_add-result-2 : goal.overflow_add-result-2
-overflow_add-result-2 c = omega (arith, few c.args.section.width c.field.result (omega arith) (omega arith))
-
 pub returns : goal.returns
 unfolding section_end
 returns c = (rw c.field.ensures, omega (arith, few c.args.section.width c.field.result (omega arith) (omega arith)))

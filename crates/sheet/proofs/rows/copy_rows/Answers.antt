@@ -1,107 +1,63 @@
-use mathlib.Core.Path.{refl}
-use mathlib.Core.List.{[], ◌∷◌}
+use mathlib.Core.Path.{◌≡◌, sym, ap, ◌∙◌}
+use mathlib.Core.Bool.{Bool}
+use mathlib.Core.List.{List, [], ◌∷◌}
+use Prim.Native.Nat.{ℕ, ◌≤◌}
 use native.Mathlib.Omega.{arith}
-use borrow.Author.Tests.{lt-ltb, le-ltb}
 use lib.ListN.{length}
-use Rattle.lists.specs.Lists.{any_shorter}
-use Rattle.lists.proofs.Shorter.{none-shorter}
-use Rattle.lists.proofs.Over.{filling-start, filling-turn, filling-end}
-use Rattle.model.specs.Sheet.{row_count, row_starts, row_concentrations}
+use Rattle.std.proofs.lemmas.Result.{err_from_is_err_and}
+use Rattle.lists.specs.Lists.{any_shorter, any_under}
+use Rattle.lists.proofs.Shorter.{under-lengths, all-long}
+use Rattle.lists.proofs.Over.{filling-turn, filling-end}
+use Rattle.model.specs.Refusals.{passes, test}
+use Rattle.model.specs.Sheet.{row_starts, row_concentrations, row_count}
+use Rattle.model.proofs.Refusals.{test-clear}
 use Rattle.sheet.specs.Rows.{row_list_test}
 use Rattle.sheet.proofs.rows.copy_rows.Goals as goal
 
-pub row_count-count-requires : goal.row_count-count-requires
-row_count-count-requires c = tt
+-- what the test of their lengths says of the two lists
+module _ (n : ℕ) (starts concentrations : List ℕ) {short : Bool} (e : short ≡ any_under n (length starts ∷ length concentrations ∷ [])) where
+  shorter : short ≡ any_shorter n (starts ∷ concentrations ∷ [])
+  shorter = e ∙ under-lengths n (starts ∷ concentrations ∷ [])
 
-pub overflow_cast-count : goal.overflow_cast-count
-overflow_cast-count c = omega arith
+  long : passes ≡ test 13 short → (n ≤ length starts) × (n ≤ length concentrations)
+  long passed = let l = all-long n (starts ∷ concentrations ∷ []) (sym shorter ∙ test-clear 13 short (sym passed)) in (l.0, l.1.0)
 
-pub returns-then-starts-count-clause-found : goal.returns-then-starts-count-clause-found
-unfolding row_list_test any_shorter
-returns-then-starts-count-clause-found c =
+pub returns-in_err-test-clause-found : goal.returns-in_err-test-clause-found
+unfolding row_list_test
+returns-in_err-test-clause-found c =
     let a = c.args in
-    rw (lt-ltb (length a.starts.now) (row_count a.sheet.now) (omega arith))
-
-pub returns-then-starts-count-clause-starts : goal.returns-then-starts-count-clause-starts
-unfolding row_list_test any_shorter
-returns-then-starts-count-clause-starts c =
-    refl
-
-pub returns-then-starts-count-clause-concentrations : goal.returns-then-starts-count-clause-concentrations
-unfolding row_list_test any_shorter
-returns-then-starts-count-clause-concentrations c =
-    refl
-
-pub returns-then-concentrations-count-clause-found : goal.returns-then-concentrations-count-clause-found
-unfolding row_list_test any_shorter
-returns-then-concentrations-count-clause-found c =
-    let a = c.args in
-    let count = row_count a.sheet.now in
-    rw (le-ltb (length a.starts.now) count (omega arith), lt-ltb (length a.concentrations.now) count (omega arith))
-
-pub returns-then-concentrations-count-clause-starts : goal.returns-then-concentrations-count-clause-starts
-unfolding row_list_test any_shorter
-returns-then-concentrations-count-clause-starts c =
-    refl
-
-pub returns-then-concentrations-count-clause-concentrations : goal.returns-then-concentrations-count-clause-concentrations
-unfolding row_list_test any_shorter
-returns-then-concentrations-count-clause-concentrations c =
-    refl
-
-pub loop-j-init : goal.loop-j-init
-loop-j-init c = (filling-start, filling-start, omega arith)
-
-pub row_start-requires : goal.row_start-requires
-row_start-requires c = tt
-
-pub offset_bounds-starts-j : goal.offset_bounds-starts-j
-offset_bounds-starts-j c = omega arith
+    let p = err_from_is_err_and c.from_residual.result c.from_residual.ensures.1 in
+    rw (p.1, p.2, ← c.row_count-count.ensures)
+    (c.in_err-test.ensures ∙ ap (test 13) (shorter _ a.starts.now a.concentrations.now c.any_short.ensures))
 
 pub bounds-starts-j : goal.bounds-starts-j
-bounds-starts-j c = omega arith
-
-pub row_concentration-requires : goal.row_concentration-requires
-row_concentration-requires c = tt
-
-pub offset_bounds-concentrations-j : goal.offset_bounds-concentrations-j
-offset_bounds-concentrations-j c = omega arith
+bounds-starts-j c =
+    let a = c.args in omega (arith, (long _ a.starts.now a.concentrations.now c.any_short.ensures c.in_ok-test.ensures).0)
 
 pub bounds-concentrations-j : goal.bounds-concentrations-j
-bounds-concentrations-j c = omega arith
-
-pub overflow_add-j : goal.overflow_add-j
-overflow_add-j c = omega arith
-
-pub loop-j-smaller : goal.loop-j-smaller
-loop-j-smaller c = omega arith
+bounds-concentrations-j c =
+    let a = c.args in omega (arith, (long _ a.starts.now a.concentrations.now c.any_short.ensures c.in_ok-test.ensures).1)
 
 pub loop-j-preserved : goal.loop-j-preserved
 loop-j-preserved c =
-    let l = c.loop-j in (
-      filling-turn l.invariant.0 (omega arith) c.row_start.ensures,
-      filling-turn l.invariant.1 (omega arith) c.row_concentration.ensures,
-      omega arith,
-    )
-
-pub shape_of-starts : goal.shape_of-starts
-shape_of-starts c = omega arith
-
-pub shape_of-concentrations : goal.shape_of-concentrations
-shape_of-concentrations c = omega arith
+    let a = c.args in
+    let i = c.loop-j.invariant in
+    let both = long _ a.starts.now a.concentrations.now c.any_short.ensures c.in_ok-test.ensures in
+    (filling-turn i.0 (omega (arith, both.0)) c.row_start.ensures, filling-turn i.1 (omega (arith, both.1)) c.row_concentration.ensures)
 
 pub returns-clause-found : goal.returns-clause-found
-unfolding row_list_test row_starts row_concentrations
+unfolding row_list_test
 returns-clause-found c =
     let a = c.args in
-    let count = row_count a.sheet.now in rw (none-shorter count (a.starts.now ∷ a.concentrations.now ∷ []) (omega arith))
+    rw (← c.row_count-count.ensures)
+    (c.in_ok-test.ensures ∙ ap (test 13) (shorter _ a.starts.now a.concentrations.now c.any_short.ensures))
 
 pub returns-clause-starts : goal.returns-clause-starts
-unfolding row_list_test row_starts row_concentrations
+unfolding row_starts
 returns-clause-starts c =
     filling-end (row_count c.args.sheet.now) c.loop-j.invariant.0 (omega arith)
 
 pub returns-clause-concentrations : goal.returns-clause-concentrations
-unfolding row_list_test row_starts row_concentrations
+unfolding row_concentrations
 returns-clause-concentrations c =
     filling-end (row_count c.args.sheet.now) c.loop-j.invariant.1 (omega arith)

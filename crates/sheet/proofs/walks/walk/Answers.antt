@@ -1,83 +1,59 @@
 use mathlib.Core.Path.{sym, ap, ◌∙◌}
 use Prim.Native.Nat.{◌<◌}
 use native.Mathlib.Omega.{arith}
-use borrow.Author.Rules.{rules}
+use borrow.Author.Tests.{ltb-true, ltb-false}
 use lib.ListN.{length}
+use Rattle.std.proofs.lemmas.Result.{err_from_is_err_and}
 use Rattle.model.specs.Ranges.{outside, band_section}
 use Rattle.model.specs.Sheet.{sections}
+use Rattle.model.proofs.Refusals.{test-clear}
 use Rattle.limits.specs.Says.{section_says}
-use Rattle.sheet.proofs.Walking.{walking_start, walking-end, walking-short, walking-count, walking-cut, walking_on}
+use Rattle.sheet.proofs.Tests.{failed}
+use Rattle.sheet.proofs.Walking.{walking-end, walking-short, walking-count, walking-cut, walking_on}
 use Rattle.sheet.proofs.walks.walk.Goals as goal
 
-pub edition-edition-requires : goal.edition-edition-requires
-edition-edition-requires c = tt
+pub returns-in_err-test : goal.returns-in_err-test
+returns-in_err-test c =
+    let p = err_from_is_err_and c.from_residual.result c.from_residual.ensures.1 in
+    let f = failed c.in_err-test.ensures in
+    rw (p.1, p.2, f.1)
+    (walking-short c.loop-k.invariant.0 band_section (omega (arith, c.section_count-k-end.ensures.0)) (ltb-true _ _ f.0))
 
-pub reach_count-requires : goal.reach_count-requires
-reach_count-requires c = tt
+pub returns-in_err-test-2 : goal.returns-in_err-test-2
+returns-in_err-test-2 c =
+    let less : c.loop-k.k < length (sections c.args.sheet.now) = omega (arith, c.section_count-k-end.ensures.0) in
+    let p = err_from_is_err_and c.from_residual-in_err-test-2.result c.from_residual-in_err-test-2.ensures.1 in
+    let f = failed c.in_err-test-2.ensures in
+    let entry = c.section_of-section.ensures.0 c.args.sheet.now less in
+    let long = ltb-false _ _ (test-clear 2 _ (sym c.in_ok-test.ensures)) in
+    let asked = sym (c.outside.ensures ∙ ap (outside _) (c.from.ensures ∙ c.field.ensures)) in
+    rw (p.1, p.2, f.1)
+    (walking-count c.loop-k.invariant.0 band_section less (section_says c.section_of-section.result) entry long (asked ∙ f.0))
 
-pub section_count-count-requires : goal.section_count-count-requires
-section_count-count-requires c = tt
-
-pub loop-k-init : goal.loop-k-init
-loop-k-init c = (walking_start, omega arith, omega arith)
-
-pub overflow_add-at : goal.overflow_add-at
-overflow_add-at c = omega (arith, c.loop-k.invariant.2)
-
-pub returns-then-sheet-at : goal.returns-then-sheet-at
-returns-then-sheet-at c =
-    let many = c.section_count-count.ensures.0 _ (sym c.edition-edition.ensures) (sym c.reach_count.ensures) in
-    walking-short c.loop-k.invariant.0 band_section (omega (arith, many)) c.if-sheet-at.true
-
-pub section_of-section-requires : goal.section_of-section-requires
-section_of-section-requires c = tt
-
-pub field-requires : goal.field-requires
-field-requires c = tt
-
-pub outside-requires : goal.outside-requires
-outside-requires c = tt
-
-pub returns-then-outside : goal.returns-then-outside
-returns-then-outside c =
-    let less : c.loop-k.k < length (sections c.args.sheet.now) = omega (arith, c.section_count-count.ensures.0 _ (sym c.edition-edition.ensures) (sym c.reach_count.ensures)) in
-    let entry = c.section_of-section.ensures.0 _ (sym c.edition-edition.ensures) less in
-    let asked = sym (c.outside.ensures ∙ ap (outside _) c.field.ensures) in
-    walking-count c.loop-k.invariant.0 band_section less
-    (section_says c.section_of-section.result) entry c.if-sheet-at.false
-    (asked ∙ c.if-outside.true)
-
-pub section_end-at-requires : goal.section_end-at-requires
-section_end-at-requires c = (omega (arith, c.loop-k.invariant.2), search rules)
-
-pub returns-then-sheet-at-2 : goal.returns-then-sheet-at-2
-returns-then-sheet-at-2 c =
-    let less : c.loop-k.k < length (sections c.args.sheet.now) = omega (arith, c.section_count-count.ensures.0 _ (sym c.edition-edition.ensures) (sym c.reach_count.ensures)) in
-    let entry = c.section_of-section.ensures.0 _ (sym c.edition-edition.ensures) less in
-    let asked = sym (c.outside.ensures ∙ ap (outside _) c.field.ensures) in
-    walking-cut c.loop-k.invariant.0 band_section less
-    (section_says c.section_of-section.result) entry c.if-sheet-at.false
-    (asked ∙ c.if-outside.false) (rw (← c.section_end-at.ensures.0) c.if-sheet-at-2.true)
-
-pub overflow_add-k : goal.overflow_add-k
-overflow_add-k c = omega arith
-
-pub loop-k-smaller : goal.loop-k-smaller
-loop-k-smaller c = omega arith
+pub returns-in_err-test-3 : goal.returns-in_err-test-3
+returns-in_err-test-3 c =
+    let less : c.loop-k.k < length (sections c.args.sheet.now) = omega (arith, c.section_count-k-end.ensures.0) in
+    let p = err_from_is_err_and c.from_residual-in_err-test-3.result c.from_residual-in_err-test-3.ensures.1 in
+    let f = failed c.in_err-test-3.ensures in
+    let entry = c.section_of-section.ensures.0 c.args.sheet.now less in
+    let long = ltb-false _ _ (test-clear 2 _ (sym c.in_ok-test.ensures)) in
+    let right = sym (c.outside.ensures ∙ ap (outside _) (c.from.ensures ∙ c.field.ensures)) ∙ test-clear 3 _ (sym c.in_ok-test-2.ensures) in
+    rw (p.1, p.2, f.1)
+    (walking-cut c.loop-k.invariant.0 band_section less (section_says c.section_of-section.result) entry long right
+    (rw (← c.section_end-at.ensures.0) (ltb-true _ _ f.0)))
 
 pub loop-k-preserved : goal.loop-k-preserved
 loop-k-preserved c =
-    let less : c.loop-k.k < length (sections c.args.sheet.now) = omega (arith, c.section_count-count.ensures.0 _ (sym c.edition-edition.ensures) (sym c.reach_count.ensures)) in
-    let entry = c.section_of-section.ensures.0 _ (sym c.edition-edition.ensures) less in
-    let asked = sym (c.outside.ensures ∙ ap (outside _) c.field.ensures) in
+    let less : c.loop-k.k < length (sections c.args.sheet.now) = omega (arith, c.section_count-k-end.ensures.0) in
+    let entry = c.section_of-section.ensures.0 c.args.sheet.now less in
+    let long = ltb-false _ _ (test-clear 2 _ (sym c.in_ok-test.ensures)) in
+    let right = sym (c.outside.ensures ∙ ap (outside _) (c.from.ensures ∙ c.field.ensures)) ∙ test-clear 3 _ (sym c.in_ok-test-2.ensures) in
+    let fits = ltb-false _ _ (test-clear 2 _ (sym c.in_ok-test-3.ensures)) in
     let end = c.section_end-at.ensures.0 in (
       rw end
-          (walking_on c.loop-k.invariant.0 band_section less
-          (section_says c.section_of-section.result) entry c.if-sheet-at.false
-          (asked ∙ c.if-outside.false) (rw (← end) c.if-sheet-at-2.false)),
-      omega arith,
+          (walking_on c.loop-k.invariant.0 band_section less (section_says c.section_of-section.result) entry long right (rw (← end) fits)),
       omega arith,
     )
 
 pub returns : goal.returns
-returns c = walking-end c.loop-k.invariant.0 (omega (arith, c.section_count-count.ensures.0 _ (sym c.edition-edition.ensures) (sym c.reach_count.ensures)))
+returns c = walking-end c.loop-k.invariant.0 (omega (arith, c.section_count-k-end.ensures.0))

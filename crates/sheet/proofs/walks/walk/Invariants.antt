@@ -1,12 +1,9 @@
 -- `walk` meets its contract: k sections are right, and lie on the sheet. Assumes nothing.
-use Prim.Native.Nat.{◌+◌, ◌-◌, ◌≤◌}
+use Prim.Native.Nat.{◌+◌, ◌≤◌}
 use lib.ListN.{length}
 use Rattle.model.specs.Sheet.{sections, reach_count_at}
 use Rattle.sheet.proofs.Walking.{Walking}
 use Rattle.sheet.proofs.walks.walk.Given as goal
 
 abbrev pub invariant-loop-k : goal.invariant-loop-k
-invariant-loop-k l = Walking l.sheet reach_count_at (sections l.sheet) l.k l.at × (l.k ≤ l.count) × (l.at ≤ 24 + length l.sheet)
-
-abbrev pub decreases-loop-k : goal.decreases-loop-k
-decreases-loop-k l = l.count - l.k
+invariant-loop-k l = Walking l.sheet reach_count_at (sections l.sheet) l.k l.at × (l.at ≤ 24 + length l.sheet)

@@ -1,0 +1,18 @@
+use mathlib.Core.Path.{◌∙◌}
+use lib.Dec.{eqb}
+use Prim.Native.Nat.{ℕ}
+use Rattle.std.proofs.Common.{rules}
+use Rattle.std.proofs.lemmas.Iterator.{YieldsList-from_range}
+use Rattle.std.proofs.lemmas.Iterator.Search.{any_from_yields_List}
+use Rattle.model.specs.Bands.{begins}
+use Rattle.bands.specs.Bands.{bands_say}
+use Rattle.lists.proofs.AnyBelow.{below-any}
+use Rattle.bands.proofs.place.Bands.begins.Goals as goal
+
+pub returns : goal.returns
+unfolding begins
+returns c =
+    let n = c.args.self.count in
+    let test = λ (j : ℕ). eqb ((bands_say c.args.sheet.now c.args.self).band j).lowest c.args.q in
+    any_from_yields_List test _ _ _ c.any.ensures.ran (YieldsList-from_range 0 n n (search rules) (search rules)) (λ x b q k. search rules)
+    ∙ below-any test n
