@@ -17,7 +17,8 @@ ITEM = re.compile(r"\s*(?P<attributes>(?:#\[[^\]]*\]\s*)*)(?P<public>pub(?:\s*\(
                   r"(?:const\s+(?=fn\b|extern\b))?(?:extern\s*\"\w*\"\s*(?=fn\b))?"
                   r"(?P<kind>ghost\s+use|ghost(?=\s+\w+\s*=)|use|mod|impl|fn|struct|enum|const|type)\b\s*(?P<name>\w*)")
 # what stands between `impl` and its block: parameters, a trait whose methods these are, and the type with its own
-IMPL = re.compile(r"(?:<[^{}]*?>\s*)?(?:[\w:]+(?:<[^{}]*>)?\s+for\s+)?(?P<type>\w+)\s*(?:<[^{}]*>)?\s*")
+IMPL = re.compile(r"(?:<[^{}]*?>\s*)?(?P<trait>[\w:]+(?:<[^{}]*>)?\s+for\s+)?(?P<type>\w+)\s*(?:<[^{}]*>)?\s*")
+STATED = re.compile(r"\bghost\s+(\w+)\s*=")  # what an impl says of a trait's methods
 # comments; strings and characters, whose content is no code
 OPAQUE = re.compile(r"//[^\n]*|/\*.*?\*/|\"(?:\\.|[^\"\\])*\"|'(?:\\.|[^'\\\n])'", re.S)
 BRACKETS = {"{": "}", "(": ")", "[": "]"}
@@ -108,7 +109,8 @@ class Module:
                 if within or header is None:
                     raise self.refuse(item.start("kind"))
                 at = self.closing(begin)
-                yield from self.items(begin + 1, at - 1, (header["type"],))
+                inside = self.items(begin + 1, at - 1, (header["type"],))
+                yield from self.of_trait(inside, STATED.findall(self.code, begin, at)) if header["trait"] else inside
             elif kind in ("struct", "enum"):
                 at = self.next(item.end(), ";{")
                 at = at + 1 if self.code[at] == ";" else self.closing(at)
@@ -118,11 +120,16 @@ class Module:
                 if kind == "use" and public and not self.known_again(named):
                     raise self.refuse(item.start("kind"))
 
+    def of_trait(self, methods: Iterator[Function], stated: list[str]) -> Iterator[Function]:
+        """Whoever has the type can call a trait's methods; what the impl states of the trait counts as their `ensures`."""
+        for each in methods:
+            yield each._replace(exposed=self.exposed, ensures=each.ensures + stated)
+
     def known_again(self, named: str) -> bool:
         """Of what is exposed again only constants are known, and types whose own module gives them no functions."""
         found = re.fullmatch(r"(\w+)::[A-Z]\w*\s*;", named)
         text = self.files.get("/".join((*self.file.split("/")[:3], *self.path[1:], f"{found[1]}.rt"))) if found else None
-        return text is not None and not re.search(r"^impl\b", without_comments(text), re.M)
+        return text is not None and not re.search(r"\bimpl\b", without_comments(text))
 
     def module(self, name: str, public: bool) -> Iterator[Function]:
         inside = "/".join((*self.file.split("/")[:3], *self.path[1:], f"{name}.rt"))

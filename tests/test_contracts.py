@@ -240,6 +240,11 @@ WRONG = (
          "Sharing stands"),
     Edit("another statement of a claim's name", source(LIBRARY), r"Rattle\.model\.specs\.PoolClaim",
          "Rattle.answers.specs.Answers", "Sharing stands"),
+    Edit("a Display that says no text", source("terms"), r"^    ghost output = {[^\n]*\n", "", "terms::Place::fmt has no"),
+    Edit("a trait's method that asks", source("terms"), r"(impl fmt::Display for Place \{.*?fn fmt[^{]*)(?=\{)",
+         r"\1requires { ⊥ } ", "terms::Place::fmt asks"),
+    Edit("a type exposed again with a function", "crates/bands/src/place.rt", r"\Z",
+         "\n#[inline] impl Bands {\n    pub fn idle() {}\n}\n", UNREADABLE),
     Edit("a clause of no known kind", source(LIBRARY), r"(\n +)(ensures sharing { Sharing })",
          r"\1asks { ⊥ }\1\2", UNREADABLE),
 )

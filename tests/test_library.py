@@ -5,7 +5,7 @@
 Loadings, starts, steps, reports, searches and lookups of U and of the flow, accepted and refused, are put to the
 library and to the model.  After each call every byte that was lent is compared, and the figures are held to the exact
 river fed the same calls: at most 6 x n, sediment 6 x n x Kd.  Then the examples are run, power failures and all, what a
-search reads is seen, and the stack that the calls take is measured.
+search reads is seen, the stack that the calls take is measured, and what the archive needs from outside is listed.
 The exit status is 0 only when every group ran, showed every answer that it must and agreed.
 """
 from __future__ import annotations
@@ -35,6 +35,8 @@ from library import CALLS, INCLUDE, OLD, READINGS, ROOT, STRICT, U32, Library, c
 from model import (COLUMNS, HIGHEST, HIGHEST_KD, MOST_BANDS, MOST_BLOCKS, MOST_FLOW_ROWS, MOST_REACHES, MOST_RIVERS,
                    MOST_ROWS, MOST_SEGMENTS, MOST_STEPS, ONE_WHOLE, SET, Row, flow_row_count_at, row_count_at)
 from sheets import HIGHEST_FIELD
+
+NEEDED = {"memcpy"}                 # C functions
 
 # The groups
 
@@ -795,7 +797,16 @@ def run_stack(archive: str, folder: Path, total: Tally) -> None:
         f"{faults} differences")
 
 
+def run_names(archive: str, total: Tally) -> None:
+    """What the archive needs from outside is what docs/C.md says that it needs."""
+    listed = subprocess.run(["nm", "--undefined-only", archive], capture_output=True, text=True, check=True).stdout
+    found = {line.split()[-1] for line in listed.splitlines() if " U " in line}
+    total.differences += found != NEEDED
+    say(f"names from outside: {', '.join(sorted(found))}, {int(found != NEEDED)} differences")
+
+
 def examples(archive: str, folder: Path, total: Tally) -> None:
+    run_names(archive, total)
     run_gate(archive, folder, total)
     run_ahead(archive, folder, total)
     run_forecast(archive, folder, total)

@@ -1,8 +1,8 @@
 // A loading over plain lists: any bytes in, half-step numbers or a numbered refusal out. Of the list of reach records it is handed the length.
 #![tactic(auto)]
 
-ghost use Rattle.std.specs.Prelude.{◌≡◌};
-ghost use Rattle.model.specs.State.{loaded_segments, write_segments};
+ghost use Rattle.std.specs.Prelude.{◌≡◌, map, length};
+ghost use Rattle.model.specs.State.{Columns, column_lists, loaded_segments, write_segments};
 ghost use Rattle.model.specs.Refusals.{first};
 ghost use Rattle.model.specs.Load.{sheet_tests, river_tests, list_tests, loaded, load_answer, load_columns};
 ghost use Rattle.terms.specs.Says.{finding_says};
@@ -69,7 +69,24 @@ pub fn river_test(sheet: &[u8]) -> Result<(), Refusal>
     flows_test(sheet, n, SegmentTest::HalfStepSum)
 }
 
-// Test 13 of a loading; `row` is the flow row's number, `records` the length of the list of reach records.
+// Test 13 of a loading by lengths alone: `row` is the flow row's number, `records` the length of the list of reach records, `lengths` those of the
+// fourteen lists.
+pub fn lengths_test(
+    sheet: &[u8],
+    row: u32,
+    records: usize,
+    lengths: &[usize],
+) -> Result<(), Refusal>
+    ensures { (x : Columns) → map length (column_lists x) ≡ lengths.now →
+        finding_says result ≡ first (list_tests sheet.now row records x) }
+{
+    let short = any_short(segment_count(sheet), lengths);
+    Fault::ListLength.test(
+        (flow_row_count(sheet) < row) | short | (records < reach_count(sheet) as usize),
+    )
+}
+
+// Test 13 of a loading.
 // The sheet, the row and the columns go side by side, here and below, as document 01's call is lent them.
 pub fn list_test(
     sheet: &[u8],
@@ -79,8 +96,10 @@ pub fn list_test(
 ) -> Result<(), Refusal>
     ensures { finding_says result ≡ first (list_tests sheet.now row records (columns_lent columns.now)) }
 {
-    let short = any_short(
-        segment_count(sheet),
+    lengths_test(
+        sheet,
+        row,
+        records,
         &[
             columns.e.len(),
             columns.g.len(),
@@ -97,9 +116,6 @@ pub fn list_test(
             columns.kd.len(),
             columns.start.len(),
         ],
-    );
-    Fault::ListLength.test(
-        (flow_row_count(sheet) < row) | short | (records < reach_count(sheet) as usize),
     )
 }
 

@@ -12,7 +12,7 @@ use Rattle.model.specs.Sheet.{interval, record_field, gauge_count_at, gauge_coun
 use Rattle.model.specs.State.{State, figures_at}
 use Rattle.output.specs.Listing.{gauge_line, step_lines, lines_at}
 use Rattle.output.specs.Outcomes.{Lines}
-use Rattle.output.specs.declared.Output.{Output}
+use Rattle.output.specs.declared.Writer.{Writer}
 use Rattle.output.proofs.Lines.{lines_none}
 use Rattle.listing.specs.Shown.{Shown, HasSegment, line_at}
 use Rattle.own_river_laws.proofs.Sheets.{gauge-first, gauge-last}
@@ -39,11 +39,11 @@ unfolding first_lines step_lines gauges
 lines-all sheet s = sym (map-tab (gauge_line sheet s) (gauge_at sheet) 0 (gauge_count sheet))
 
 -- the step is a multiple of the interval, or has no line
-pub due : (sheet : List ℕ) (s : State) {o r : Output} → s.steps % interval sheet ≡ 0 → Lines (step_lines sheet s) o r → Lines (lines_at sheet s) o r
+pub due : (sheet : List ℕ) (s : State) {o r : Writer} → s.steps % interval sheet ≡ 0 → Lines (step_lines sheet s) o r → Lines (lines_at sheet s) o r
 unfolding lines_at
 due sheet s e x = rw e x
 
-pub none-due : (sheet : List ℕ) (s : State) {o : Output} → (s.steps % interval sheet ≡ 0 → ⊥) → Lines (lines_at sheet s) o o
+pub none-due : (sheet : List ℕ) (s : State) {o : Writer} → (s.steps % interval sheet ≡ 0 → ⊥) → Lines (lines_at sheet s) o o
 unfolding lines_at
 none-due sheet s n = rw (ne_eqb (s.steps % interval sheet) 0 n) lines_none
 

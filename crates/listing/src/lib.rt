@@ -7,12 +7,12 @@ ghost use Rattle.output.specs.Outcomes.{PutLine, Lines};
 ghost use Rattle.listing.specs.Shown.{Shown, HasSegment, line_at};
 
 use otis::River;
-use output::Output;
+use output::Writer;
 use sheet::fields::{gauge, gauge_count, interval};
 use terms::StateLists;
 
 // "step, gauge's segment, C, Z, Kd × W": the line of the gauge at this segment, which counts from 1.
-fn put_gauge(river: River, segment: u32, kd: &[u32], state: StateLists, out: &mut Output)
+fn put_gauge(river: River, segment: u32, kd: &[u32], state: StateLists, out: &mut Writer)
     requires { HasSegment segment kd.now (state_of state river.upstream river.steps) }
     ensures { PutLine (line_at segment kd.now (state_of state.entry river.upstream river.steps)) out.old out.new }
 {
@@ -28,7 +28,7 @@ fn put_gauge(river: River, segment: u32, kd: &[u32], state: StateLists, out: &mu
 }
 
 // "gauges in the sheet's order".
-fn put_gauges(river: River, sheet: &[u8], kd: &[u32], state: StateLists, out: &mut Output)
+fn put_gauges(river: River, sheet: &[u8], kd: &[u32], state: StateLists, out: &mut Writer)
     requires { Shown sheet.now kd.now (state_of state river.upstream river.steps) }
     ensures { Lines (step_lines sheet.now (state_of state.entry river.upstream river.steps)) out.old out.new }
 {
@@ -38,7 +38,7 @@ fn put_gauges(river: River, sheet: &[u8], kd: &[u32], state: StateLists, out: &m
 }
 
 // "lines come at multiples of the interval": the lines of the step that the river has made last. `kd` has the Kd of the river's segments.
-pub fn put_lines(river: River, sheet: &[u8], kd: &[u32], state: StateLists, out: &mut Output)
+pub fn put_lines(river: River, sheet: &[u8], kd: &[u32], state: StateLists, out: &mut Writer)
     requires { Shown sheet.now kd.now (state_of state river.upstream river.steps) }
     ensures { Lines (lines_at sheet.now (state_of state.entry river.upstream river.steps)) out.old out.new }
 {

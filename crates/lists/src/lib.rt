@@ -13,9 +13,12 @@ pub fn any_short(n: usize, lengths: &[usize]) -> bool
 }
 
 // The first n entries of `from` over those of `to`.
+// By index: `copy_from_slice` has the archive for C need `memmove` from outside.
 pub fn copy(n: usize, from: &[u32], to: &mut [u32])
     requires { (n ≤ length from.now) × (n ≤ length to.old) }
     ensures { to.new ≡ over (tab 0 n (λ i. get_or from.now i 0)) to.old }
 {
-    to[..n].copy_from_slice(&from[..n]);
+    for i in 0..n {
+        to[i] = from[i];
+    }
 }

@@ -28,7 +28,7 @@ use Rattle.output.specs.Text.{places, decimal, ended, heading, line, done}
 use Rattle.output.specs.Listing.{gauge_line, step_lines, lines_at, lines_ahead, listing, printed_to, printed, text}
 use Rattle.output.specs.Outcomes.{bytes_due, Put, Room, longest, Puts, none, more, Listed}
 use Rattle.output.specs.Bench.{documented}
-use Rattle.output.specs.declared.Output.{Output}
+use Rattle.output.specs.declared.Writer.{Writer}
 use Rattle.output.proofs.Putting.{put-line, room_fits}
 use Rattle.output.proofs.Lines as Lines
 use Rattle.output.proofs.Listing.{listing-holds}
@@ -39,11 +39,11 @@ Short [] = Unit {0}
 Short (x ∷ lines) = (length x ≤ longest) × Short lines
 
 -- so many bytes of this buffer used, and no write failed
-abbrev pub well : Bor LibcRuntime → MutBor (List ℕ) → (used : ℕ) → Output
-well rt buffer used = record { rt = rt; buffer = buffer; used = used; failed = false }
+abbrev pub well : Bor LibcRuntime → MutBor (List ℕ) → (used : ℕ) → Writer
+well rt buffer used = record { rt = rt; buffer = buffer; output = record { used = used; failed = false } }
 
 -- lines put, and no write failed
-pub record Made (lines : List (List ℕ)) (o : Output) : Type 0 where
+pub record Made (lines : List (List ℕ)) (o : Writer) : Type 0 where
   pub written : List ℕ
   pub used : ℕ
   pub later : MutBor (List ℕ)
@@ -80,7 +80,7 @@ module _ (rt : Bor LibcRuntime) (b : MutBor (List ℕ)) (l : longest ≤ length 
   unfolding lowest_from lowest not_rising nearest floor_div outside any_outside starts_with field header_field section_end sections_end count_at sheet_end record_field reach_fields reach_of reach_on reaches row_starts row_concentrations gauges total_segments segment_count along_river banded_reaches band_count bands_on bands_at flow_at hydraulics_of hydraulics_at bands_fault course_of reach_at own_gain gain flow site_at fractions numbers loaded_segment P N F R row_of new_storage new_sediment new_figures downward stepped figures_at write_figures walk starts_late row_fault gauge_fault flow_fault face_fault sum_fault sheet_tests course_tests top_of sections edition flow_row_count test_flows last_begun flow_in_force upstream_at bytes all_bytes rows_upstream own_step ahead own_start gauge_line step_lines lines_at lines_ahead listing printed_to printed text line ended decimal places heading done listed documented
   put_whole = made rt (printed listed) (lit≤ tt, (lit≤ tt, (lit≤ tt, (lit≤ tt, tt)))) 0 b zero-le l
 
-  abbrev pub last : Output
+  abbrev pub last : Writer
   last = well rt put_whole.later put_whole.used
 
   pub put-listed : Listed (printed listed) b last

@@ -14,7 +14,7 @@ use borrow.Rule.Slice.PartMut.{put_mid, Post-is}
 use Rattle.std.specs.Borrow.{MutBor}
 use Rattle.lists.proofs.Shorter.{neither}
 use Rattle.output.specs.Outcomes.{Put, size, due, Flushed, Room, PutLine, longest}
-use Rattle.output.specs.declared.Output.{Output}
+use Rattle.output.specs.declared.Writer.{Writer}
 
 -- past the end nothing is stored
 pub sets-out : (vs l : List ℕ) (i : ℕ) → length l ≤ i → sets l i vs ≡ l
@@ -55,63 +55,63 @@ sets_behind t l i n = cases (leb (i + n) (length l)) refl
     cases true e = let h : i + n ≤ length l = leb-true _ _ e in ap (λ k. sets l (i + k) t) (omega arith)
     cases false e = let h : length l < i + n = leb-false _ _ e in sets-out t l _ (omega arith) ∙ sym (sets-out t l (i + n) (omega arith))
 
-pub put_then : {s t : List ℕ} {o r q : Output} → Put s o r → Put t r q → Put (s ++ t) o q
+pub put_then : {s t : List ℕ} {o r q : Writer} → Put s o r → Put t r q → Put (s ++ t) o q
 put_then {s} {t} {o} {r} {q} x y =
     let b = o.buffer.now in
-    let long : size r ≡ size o = ap length x.bytes ∙ length-sets b o.used s in
+    let long : size r ≡ size o = ap length x.bytes ∙ length-sets b o.output.used s in
     record {
       used = omega (arith, length-append s t, x.used, y.used);
       failed = y.failed ∙ x.failed;
       bytes =
           y.bytes ∙ rw (x.used, x.bytes)
-          (ap (λ k. sets (sets b o.used s) (o.used + min (length s) (k - o.used)) t) (sym (length-sets b o.used s))
-          ∙ sets_behind t (sets b o.used s) o.used (length s) ∙ sym (sets-append s t b o.used));
+          (ap (λ k. sets (sets b o.output.used s) (o.output.used + min (length s) (k - o.output.used)) t) (sym (length-sets b o.output.used s))
+          ∙ sets_behind t (sets b o.output.used s) o.output.used (length s) ∙ sym (sets-append s t b o.output.used));
       reference = y.reference ∙ x.reference;
     }
 
 -- no more is due than the buffer has
-pub due-within : (o : Output) → (due o).bytes ≤ size o
+pub due-within : (o : Writer) → (due o).bytes ≤ size o
 unfolding due
-due-within o = cases (o.failed || ltb (size o) o.used) refl
+due-within o = cases (o.output.failed || ltb (size o) o.output.used) refl
   where
-    cases : (t : Bool) → (o.failed || ltb (size o) o.used) ≡ t → cond t 0 o.used ≤ size o
+    cases : (t : Bool) → (o.output.failed || ltb (size o) o.output.used) ≡ t → cond t 0 o.output.used ≤ size o
     cases true e = zero-le
-    cases false e = ltb-false (size o) o.used (neither o.failed (ltb (size o) o.used) e).1
+    cases false e = ltb-false (size o) o.output.used (neither o.output.failed (ltb (size o) o.output.used) e).1
 
 -- nothing of what the buffer has not, so that not all the bytes used are written
-pub due-not_all : (o : Output) → size o < o.used → eqb (due o).bytes o.used ≡ false
+pub due-not_all : (o : Writer) → size o < o.output.used → eqb (due o).bytes o.output.used ≡ false
 unfolding due
-due-not_all o h = rw (lt-ltb (size o) o.used h, or-true o.failed) (ne_eqb 0 o.used (λ e. absurd (omega arith)))
+due-not_all o h = rw (lt-ltb (size o) o.output.used h, or-true o.output.failed) (ne_eqb 0 o.output.used (λ e. absurd (omega arith)))
 
 -- the write that is due: all the bytes used are written, or they are lost
-pub flushed : {o r : Output} (made : Bool) → r.used ≡ 0 → r.failed ≡ (o.failed || not made) → r.buffer ≡ o.buffer →
-    (size o < o.used → made ≡ false) → Flushed o r
+pub flushed : {o r : Writer} (made : Bool) → r.output.used ≡ 0 → r.output.failed ≡ (o.output.failed || not made) → r.buffer ≡ o.buffer →
+    (size o < o.output.used → made ≡ false) → Flushed o r
 flushed {o} {r} made used failed buffer lost = record {
   used = used;
   failed = λ h. failed ∙ rw h;
-  lost = λ h. failed ∙ rw (lost h) (or-true o.failed);
+  lost = λ h. failed ∙ rw (lost h) (or-true o.output.failed);
   buffer = buffer;
 }
 
 -- room is made in the same buffer
-pub room-buffer : {o from : Output} → Room o from → from.buffer ≡ o.buffer
-room-buffer {o} {from} x = cases (leb (o.used + longest) (size o)) refl
+pub room-buffer : {o from : Writer} → Room o from → from.buffer ≡ o.buffer
+room-buffer {o} {from} x = cases (leb (o.output.used + longest) (size o)) refl
   where
-    cases : (fits : Bool) → leb (o.used + longest) (size o) ≡ fits → from.buffer ≡ o.buffer
-    cases true e = ap (λ (y : Output). y.buffer) (x.kept (leb-true _ _ e))
+    cases : (fits : Bool) → leb (o.output.used + longest) (size o) ≡ fits → from.buffer ≡ o.buffer
+    cases true e = ap (λ (y : Writer). y.buffer) (x.kept (leb-true _ _ e))
     cases false e = (x.flushed (leb-false _ _ e)).buffer
 
-pub room-size : {o from : Output} → Room o from → size from ≡ size o
+pub room-size : {o from : Writer} → Room o from → size from ≡ size o
 room-size x = ap (λ (b : MutBor (List ℕ)). length b.now) (room-buffer x)
 
 -- a buffer that can hold any line has room for one
-pub room_fits : {o from : Output} → Room o from → longest ≤ size o → from.used + longest ≤ size from
-room_fits {o} {from} x l = cases (leb (o.used + longest) (size o)) refl
+pub room_fits : {o from : Writer} → Room o from → longest ≤ size o → from.output.used + longest ≤ size from
+room_fits {o} {from} x l = cases (leb (o.output.used + longest) (size o)) refl
   where
-    cases : (fits : Bool) → leb (o.used + longest) (size o) ≡ fits → from.used + longest ≤ size from
-    cases true e = let h : o.used + longest ≤ size o = leb-true _ _ e in rw (x.kept h) h
+    cases : (fits : Bool) → leb (o.output.used + longest) (size o) ≡ fits → from.output.used + longest ≤ size from
+    cases true e = let h : o.output.used + longest ≤ size o = leb-true _ _ e in rw (x.kept h) h
     cases false e = let f = x.flushed (leb-false _ _ e) in rw (f.used, f.buffer) l
 
-pub put-line : {text : List ℕ} {o from r : Output} → length text ≤ longest → Room o from → Put text from r → PutLine text o r
+pub put-line : {text : List ℕ} {o from r : Writer} → length text ≤ longest → Room o from → Put text from r → PutLine text o r
 put-line {text} {o} {from} {r} h x y =
     record { from = from; room = x; put = y; whole = λ l. omega (arith, y.used, room_fits x l) }

@@ -2,22 +2,49 @@
 // The standard library's `BufWriter` gathers on the heap, of which this project has none.
 #![tactic(auto)]
 
-ghost use Rattle.std.specs.Prelude.{◌≡◌, not, ◌||◌, ◌≤◌};
+ghost use Rattle.std.specs.Prelude.{◌≡◌, false, not, ◌||◌, ◌≤◌};
 ghost use Rattle.output.specs.Text.{ended, heading, line, done, refused};
 ghost use Rattle.output.specs.Outcomes.{size, Put, due, Fresh, Flushed, Room, PutLine};
 
 // The most bytes of a line: five numbers of 20 digits, and the byte behind each.
 pub const LINE: usize = 5 * (20 + 1);
 
-// The lent buffer, how many of its bytes are used, which are still to be written, and whether a write has failed. After a failed write
-// nothing more is written: `due` says so of every write, and `flush` makes that one alone. A flag and no `Result`: lines are put all the same, which
-// `PutLine` promises (what may not change).
-#[derive(Drop)]
-pub struct Output<'r, 'b> {
-    pub rt: &'r HostRuntime,
-    pub buffer: &'b mut [u8],
+// Where the output stands: the bytes used of the buffer, which are still to be written, and whether a write has failed. After a failed write
+// nothing more is written: `Writer::due` says so of every write, and `Writer::flush` makes that one alone. A flag and no `Result`: lines are put
+// all the same, which `PutLine` promises (what may not change).
+#[derive(Clone, Copy)]
+pub struct Output {
     pub used: usize,
     pub failed: bool,
+}
+
+impl Output {
+    pub fn new() -> Output
+        ensures { (result.used ≡ 0) × (result.failed ≡ false) }
+    {
+        Output {
+            used: 0,
+            failed: false,
+        }
+    }
+
+    // No byte is used any more, whether the write was made or not.
+    fn after_write(self, written: bool) -> Output
+        ensures { (result.used ≡ 0) × (result.failed ≡ (self.failed || not written)) }
+    {
+        Output {
+            used: 0,
+            failed: self.failed | !written,
+        }
+    }
+}
+
+// The lent buffer, where its output stands, and the runtime that writes.
+#[derive(Drop)]
+pub struct Writer<'r, 'b> {
+    pub rt: &'r HostRuntime,
+    pub buffer: &'b mut [u8],
+    pub output: Output,
 }
 
 // A process's two streams for text; `due` says to which a write goes.
@@ -34,15 +61,14 @@ struct Write {
     bytes: usize,
 }
 
-impl<'r, 'b> Output<'r, 'b> {
-    pub fn new(rt: &'r HostRuntime, buffer: &'b mut [u8]) -> Output<'r, 'b>
+impl<'r, 'b> Writer<'r, 'b> {
+    pub fn new(rt: &'r HostRuntime, buffer: &'b mut [u8]) -> Writer<'r, 'b>
         ensures { Fresh buffer.entry result }
     {
-        Output {
+        Writer {
             rt,
             buffer,
-            used: 0,
-            failed: false,
+            output: Output::new(),
         }
     }
 
@@ -50,10 +76,10 @@ impl<'r, 'b> Output<'r, 'b> {
     fn due(&self) -> Write
         ensures { result ≡ due self.now }
     {
-        let lost = self.failed || self.buffer.len() < self.used;
+        let lost = self.output.failed || self.buffer.len() < self.output.used;
         Write {
             stream: Stream::Stdout,
-            bytes: if lost { 0 } else { self.used },
+            bytes: if lost { 0 } else { self.output.used },
         }
     }
 
@@ -68,30 +94,21 @@ impl<'r, 'b> Output<'r, 'b> {
         }
     }
 
-    // No byte is used any more, whether the write was made or not.
-    fn after_write(&mut self, written: bool)
-        ensures used { self.new.used ≡ 0 }
-        ensures failed { self.new.failed ≡ (self.old.failed || not written) }
-        ensures buffer { self.new.buffer ≡ self.old.buffer }
-    {
-        self.used = 0;
-        self.failed |= !written;
-    }
-
     // Makes the write that is due.
     pub fn flush(&mut self)
         ensures { Flushed self.old self.new }
     {
         let due = self.due();
         let written = self.write(due);
-        self.after_write(written && due.bytes == self.used);
+        let all = written && due.bytes == self.output.used;
+        self.output = self.output.after_write(all);
     }
 
     // Writes the bytes used where a line might not fit behind them.
     fn room(&mut self)
         ensures { Room self.old self.new }
     {
-        if self.buffer.len() < self.used.saturating_add(LINE) {
+        if self.buffer.len() < self.output.used.saturating_add(LINE) {
             self.flush();
         }
     }
@@ -100,12 +117,12 @@ impl<'r, 'b> Output<'r, 'b> {
     fn put_text(&mut self, text: &[u8])
         ensures { Put text.now self.old self.new }
     {
-        let used = self.used;
+        let used = self.output.used;
         let size = self.buffer.len();
         if used < size {
             let count = text.len().min(size - used);
             self.buffer[used..used + count].copy_from_slice(&text[..count]);
-            self.used += count;
+            self.output.used += count;
         }
     }
 

@@ -24,7 +24,7 @@ use Rattle.own_river.proofs.Stepping.{SameLengths, step-lengths}
 use Rattle.output.specs.Text.{heading, done, refused}
 use Rattle.output.specs.Listing.{lines_at, lines_ahead, listing, printed_to, printed, text}
 use Rattle.output.specs.Outcomes.{longest, Flushed, PutLine, Puts, Lines, Fresh}
-use Rattle.output.specs.declared.Output.{Output}
+use Rattle.output.specs.declared.Writer.{Writer}
 use Rattle.output.proofs.Lines.{puts_one, none-failed, lines_one, lines-append, listed}
 use Rattle.output.proofs.Alike.{lines-alike}
 use Rattle.listing.specs.Shown.{Shown}
@@ -33,7 +33,7 @@ use Rattle.river.specs.Printed.{Ran, PutListing, PutSheet, Printed}
 -- ---- the run
 
 -- from this state: `done` steps are done, k of them from here, and the lines of these are put
-pub record Going (sheet : List ℕ) (n : ℕ) (begun : List ℕ) (from : State) (room : Working) (o : Output) (sides : List ℕ) (state : State) (working : Working) (out : Output) (done : ℕ) : Type 0 where
+pub record Going (sheet : List ℕ) (n : ℕ) (begun : List ℕ) (from : State) (room : Working) (o : Writer) (sides : List ℕ) (state : State) (working : Working) (out : Writer) (done : ℕ) : Type 0 where
   pub k : ℕ
   pub counted : done ≡ from.steps + k
   pub is : state ≡ ahead (rows_upstream sheet) sheet from k
@@ -42,7 +42,7 @@ pub record Going (sheet : List ℕ) (n : ℕ) (begun : List ℕ) (from : State) 
   pub sides_long : length sides ≡ length begun
   pub lengths : SameLengths from state room working
 
-pub going_start : {sheet : List ℕ} {n : ℕ} {from : State} {o : Output} {sides : List ℕ} {working : Working} → Ready sheet n sides from working →
+pub going_start : {sheet : List ℕ} {n : ℕ} {from : State} {o : Writer} {sides : List ℕ} {working : Working} → Ready sheet n sides from working →
     Going sheet n sides from working o sides from working o from.steps
 unfolding ahead lines_ahead
 going_start ready = record {
@@ -55,7 +55,7 @@ going_start ready = record {
   lengths = record { channel = refl; storage = refl; sediment = refl; p = refl; y = refl };
 }
 
-module _ {sheet : List ℕ} {n : ℕ} {begun : List ℕ} {from : State} {room : Working} {o : Output} {sides : List ℕ} {state : State} {working : Working} {out : Output} {steps : ℕ}
+module _ {sheet : List ℕ} {n : ℕ} {begun : List ℕ} {from : State} {room : Working} {o : Writer} {sides : List ℕ} {state : State} {working : Working} {out : Writer} {steps : ℕ}
     (g : Going sheet n begun from room o sides state working out steps) where
   -- the state's own count
   pub counts : state.steps ≡ steps
@@ -66,7 +66,7 @@ module _ {sheet : List ℕ} {n : ℕ} {begun : List ℕ} {from : State} {room : 
   below-most h = omega (arith, counts, h, most-steps sheet g.ready.of_sheet.passed)
 
   -- one step more, and its lines
-  pub going-turn : {sides' : List ℕ} {state' : State} {working' : Working} {out' : Output} {u' : ℕ} →
+  pub going-turn : {sides' : List ℕ} {state' : State} {working' : Working} {out' : Writer} {u' : ℕ} →
       u' ≡ rows_upstream sheet (steps + 1) → Stepped sheet n sides state working u' sides' state' working' →
       Lines (lines_at sheet state') out out' → Going sheet n begun from room o sides' state' working' out' (steps + 1)
   unfolding lines_ahead
@@ -96,13 +96,13 @@ module _ {sheet : List ℕ} {n : ℕ} {begun : List ℕ} {from : State} {room : 
           ∙ ap (λ (s : State). own_step sheet (rows_upstream sheet (suc s.steps)) s) g.is ∙ sym (ahead-last (rows_upstream sheet) sheet from g.k)
 
 -- no step is left, or a write has failed
-pub record Ending (sheet : List ℕ) (n : ℕ) (begun : List ℕ) (from : State) (room : Working) (o : Output) (sides : List ℕ) (state : State) (working : Working) (out : Output) : Type 0 where
+pub record Ending (sheet : List ℕ) (n : ℕ) (begun : List ℕ) (from : State) (room : Working) (o : Writer) (sides : List ℕ) (state : State) (working : Working) (out : Writer) : Type 0 where
   pub steps : ℕ
   pub going : Going sheet n begun from room o sides state working out steps
   pub few : steps ≤ steps_m sheet
-  pub all : out.failed ≡ false → steps_m sheet ≤ steps
+  pub all : out.output.failed ≡ false → steps_m sheet ≤ steps
 
-pub going_end : {sheet : List ℕ} {n : ℕ} {begun : List ℕ} {from : State} {room : Working} {o : Output} {sides : List ℕ} {state : State} {working : Working} {out r : Output} →
+pub going_end : {sheet : List ℕ} {n : ℕ} {begun : List ℕ} {from : State} {room : Working} {o : Writer} {sides : List ℕ} {state : State} {working : Working} {out r : Writer} →
     Ending sheet n begun from room o sides state working out → PutLine (done state.steps) out r →
     Ran sheet n from sides state.channel state.storage state.sediment working o r
 going_end e put =
@@ -144,7 +144,7 @@ ahead-lines sheet front u s t a (suc k) =
     rw (ahead-lines sheet front u s t a k, lines-alike sheet (λ j h. (gauge-first sheet front j h, gauge-last sheet front j h)) (ahead-alike u sheet s t (suc k) a))
 
 -- the heading, and the run from a state alike to the start's
-pub put_lines : {sheet : List ℕ} {n : ℕ} {sides c z w : List ℕ} {working : Working} {o out r : Output} (state : State) → first (river_tests sheet) ≡ passes → state.steps ≡ 0 →
+pub put_lines : {sheet : List ℕ} {n : ℕ} {sides c z w : List ℕ} {working : Working} {o out r : Writer} (state : State) → first (river_tests sheet) ≡ passes → state.steps ≡ 0 →
     Alike (segment_count sheet) state (own_start (rows_upstream sheet) sheet) → PutLine heading o out → Ran sheet n state sides c z w working out r →
     PutListing sheet o r
 unfolding printed_to listing
@@ -160,17 +160,17 @@ put_lines {sheet} state front none alike put ran =
     }
 
 -- from the start
-pub put-listing : {sheet : List ℕ} {buffer : MutBor (List ℕ)} {o r : Output} → Fresh buffer o → PutListing sheet o r → PutSheet sheet buffer r
+pub put-listing : {sheet : List ℕ} {buffer : MutBor (List ℕ)} {o r : Writer} → Fresh buffer o → PutListing sheet o r → PutSheet sheet buffer r
 put-listing fresh put = record { steps = put.steps; few = put.few; lines = listed fresh put.lines.puts; all = put.all }
 
 -- so is the whole listing of an accepted sheet
-pub put_whole : {sheet : List ℕ} {n : ℕ} {buffer : MutBor (List ℕ)} {sides c z w : List ℕ} {working : Working} {o out r : Output} (state : State) → first (river_tests sheet) ≡ passes → state.steps ≡ 0 →
+pub put_whole : {sheet : List ℕ} {n : ℕ} {buffer : MutBor (List ℕ)} {sides c z w : List ℕ} {working : Working} {o out r : Writer} (state : State) → first (river_tests sheet) ≡ passes → state.steps ≡ 0 →
     Alike (segment_count sheet) state (own_start (rows_upstream sheet) sheet) → Fresh buffer o → PutLine heading o out → Ran sheet n state sides c z w working out r →
     PutSheet sheet buffer r
 put_whole state front none alike fresh put ran = put-listing fresh (put_lines state front none alike put ran)
 
 -- a refusal
-pub put-refused-sheet : {sheet : List ℕ} {buffer : MutBor (List ℕ)} {o r : Output} (number : ℕ) (place : Place) → first (river_tests sheet) ≡ fails number place →
+pub put-refused-sheet : {sheet : List ℕ} {buffer : MutBor (List ℕ)} {o r : Writer} (number : ℕ) (place : Place) → first (river_tests sheet) ≡ fails number place →
     Fresh buffer o → PutLine (refused number) o r → PutSheet sheet buffer r
 unfolding printed_to
 put-refused-sheet {sheet} number place front fresh put = record { steps = steps_m sheet; few = omega arith; lines = rw front (listed fresh (puts_one put)); all = λ q. refl }
@@ -199,16 +199,16 @@ unfolding write_figures
 begun-steps begun = ap (λ (s : State). s.steps) begun.state_is
 
 -- the last write
-pub printed-whole : {sheet : List ℕ} {buffer : MutBor (List ℕ)} {out r : Output} → longest ≤ length buffer.now → PutSheet sheet buffer out → Flushed out r →
+pub printed-whole : {sheet : List ℕ} {buffer : MutBor (List ℕ)} {out r : Writer} → longest ≤ length buffer.now → PutSheet sheet buffer out → Flushed out r →
     Printed sheet buffer r
 unfolding printed
 printed-whole {sheet} {out = out} {r = r} long put flushed = record {
   out = out;
   put = put;
   flushed = flushed;
-  text_is = λ e. let q = before out.failed refl e in put.lines.text_is long q ∙ ap (λ k. text (printed_to sheet k)) (put.all q);
+  text_is = λ e. let q = before out.output.failed refl e in put.lines.text_is long q ∙ ap (λ k. text (printed_to sheet k)) (put.all q);
 }
   where
-    before : (t : Bool) → out.failed ≡ t → r.failed ≡ false → out.failed ≡ false
+    before : (t : Bool) → out.output.failed ≡ t → r.output.failed ≡ false → out.output.failed ≡ false
     before true f e = absurd (true≢false (sym (flushed.failed f) ∙ e))
     before false f e = f

@@ -13,7 +13,7 @@ ghost use Rattle.river.specs.Printed.{Ran, PutListing, PutSheet, Printed};
 use assembly::river_test;
 use listing::put_lines;
 use otis::River;
-use output::Output;
+use output::Writer;
 use own_river::rows::upstream_at;
 use own_river::sides::{PARTS, kd};
 use reading::read_full;
@@ -40,7 +40,7 @@ fn run(
     sides: &mut [u32],
     state: &mut StateListsMut,
     working: &mut WorkingMut,
-    out: &mut Output,
+    out: &mut Writer,
 )
     requires { Ready sheet.now n sides.old (state_lent state.old river.upstream river.steps) (working_lent working.old)
         × (river.steps ≤ steps_m sheet.now) }
@@ -53,7 +53,7 @@ fn run(
         river = own_river::step(river, sheet, n, sides, state, working, u);
         put_lines(river, sheet, kd(sides), state.read(), out);
         // Nothing more is printed once a write has failed.
-        if out.failed {
+        if out.output.failed {
             break;
         }
     }
@@ -61,7 +61,7 @@ fn run(
 }
 
 // The listing of an accepted sheet: its river is started and run.
-fn put_listing(sheet: &[u8], out: &mut Output)
+fn put_listing(sheet: &[u8], out: &mut Writer)
     requires { first (river_tests sheet.now) ≡ passes }
     ensures { PutListing sheet.now out.old out.new }
 {
@@ -88,10 +88,10 @@ fn put_listing(sheet: &[u8], out: &mut Output)
 }
 
 // What is put of these bytes: "A refused sheet prints only `refused` and its number."
-fn put_sheet<'r, 'b>(rt: &'r HostRuntime, sheet: &[u8], buffer: &'b mut [u8]) -> Output<'r, 'b>
+fn put_sheet<'r, 'b>(rt: &'r HostRuntime, sheet: &[u8], buffer: &'b mut [u8]) -> Writer<'r, 'b>
     ensures { PutSheet sheet.now buffer.entry result }
 {
-    let mut out = Output::new(rt, buffer);
+    let mut out = Writer::new(rt, buffer);
     match river_test(sheet) {
         Ok(()) => put_listing(sheet, &mut out),
         Err(refusal) => out.put_refused(refusal.fault.number()),
@@ -100,7 +100,7 @@ fn put_sheet<'r, 'b>(rt: &'r HostRuntime, sheet: &[u8], buffer: &'b mut [u8]) ->
 }
 
 // And printed, with the last write made.
-fn print<'r, 'b>(rt: &'r HostRuntime, sheet: &[u8], buffer: &'b mut [u8]) -> Output<'r, 'b>
+fn print<'r, 'b>(rt: &'r HostRuntime, sheet: &[u8], buffer: &'b mut [u8]) -> Writer<'r, 'b>
     requires { longest ≤ length buffer.old }
     ensures { Printed sheet.now buffer.entry result }
 {

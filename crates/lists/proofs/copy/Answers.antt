@@ -1,6 +1,9 @@
-use Rattle.std.proofs.Common.{rules}
-use Rattle.lists.proofs.Tab.{tab_take, length-tab}
+use Rattle.std.proofs.Common.{arith, refl}
+use Rattle.lists.proofs.Over.{filling-turn, filling-end}
 use Rattle.lists.proofs.copy.Goals as goal
 
+pub loop-i-preserved : goal.loop-i-preserved
+loop-i-preserved c = filling-turn c.loop-i.invariant (omega arith) refl
+
 pub returns : goal.returns
-returns c = rw (length-tab _ 0 c.args.n, tab_take c.args.n c.args.from.now c.requires.0) (search rules)
+returns c = filling-end c.args.n c.loop-i.invariant (omega arith)

@@ -1,9 +1,9 @@
--- `Output::put_refused` meets its contract: a word and a number.
+-- `Writer::put_refused` meets its contract: a word and a number.
 use native.Mathlib.Omega.{arith}
 use Rattle.output.specs.Text.{refused}
 use Rattle.output.proofs.Putting.{put_then, put-line}
 use Rattle.output.proofs.Lengths.{length-refused}
-use Rattle.output.proofs.Output.put_refused.Goals as goal
+use Rattle.output.proofs.Writer.put_refused.Goals as goal
 
 pub returns : goal.returns
 unfolding refused

@@ -1,9 +1,9 @@
--- `Output::put_line` meets its contract: five numbers of at most 20 digits, one behind another.
+-- `Writer::put_line` meets its contract: five numbers of at most 20 digits, one behind another.
 use native.Mathlib.Omega.{arith}
 use Rattle.output.specs.Text.{line}
 use Rattle.output.proofs.Putting.{put_then, put-line}
 use Rattle.output.proofs.Lengths.{length-line}
-use Rattle.output.proofs.Output.put_line.Goals as goal
+use Rattle.output.proofs.Writer.put_line.Goals as goal
 
 pub returns : goal.returns
 unfolding line

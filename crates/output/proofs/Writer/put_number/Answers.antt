@@ -1,9 +1,9 @@
--- `Output::put_number` meets its contract: the digits, and the byte behind them.
+-- `Writer::put_number` meets its contract: the digits, and the byte behind them.
 use mathlib.Core.Path.{◌∙◌}
 use Rattle.output.specs.Text.{ended}
 use Rattle.output.proofs.Putting.{put_then}
 use Rattle.output.proofs.Decimal.{fewest-decimal}
-use Rattle.output.proofs.Output.put_number.Goals as goal
+use Rattle.output.proofs.Writer.put_number.Goals as goal
 
 pub returns : goal.returns
 unfolding ended

@@ -1,8 +1,8 @@
--- `Output::put_heading` meets its contract.
+-- `Writer::put_heading` meets its contract.
 use native.Mathlib.Omega.{arith}
 use Rattle.output.specs.Text.{heading}
 use Rattle.output.proofs.Putting.{put-line}
-use Rattle.output.proofs.Output.put_heading.Goals as goal
+use Rattle.output.proofs.Writer.put_heading.Goals as goal
 
 pub returns : goal.returns
 unfolding heading

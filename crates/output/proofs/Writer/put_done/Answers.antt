@@ -1,9 +1,9 @@
--- `Output::put_done` meets its contract: a word and a number.
+-- `Writer::put_done` meets its contract: a word and a number.
 use native.Mathlib.Omega.{arith}
 use Rattle.output.specs.Text.{done}
 use Rattle.output.proofs.Putting.{put_then, put-line}
 use Rattle.output.proofs.Lengths.{length-done}
-use Rattle.output.proofs.Output.put_done.Goals as goal
+use Rattle.output.proofs.Writer.put_done.Goals as goal
 
 pub returns : goal.returns
 unfolding done

@@ -1,8 +1,8 @@
--- `Output::due` meets its contract.
+-- `Writer::due` meets its contract.
 use borrow.Author.Rules.{rules}
 use Rattle.std.proofs.Common.{tests}
 use Rattle.output.specs.Outcomes.{due}
-use Rattle.output.proofs.Output.due.Goals as goal
+use Rattle.output.proofs.Writer.due.Goals as goal
 
 pub returns-then-lost : goal.returns-then-lost
 unfolding due

@@ -1,8 +1,8 @@
--- `Output::put_text` meets its contract: what has room is copied, and past the end nothing would be stored.
+-- `Writer::put_text` meets its contract: what has room is copied, and past the end nothing would be stored.
 use mathlib.Core.Path.{refl, sym}
 use native.Mathlib.Omega.{arith}
 use Rattle.output.proofs.Putting.{copied, sets-out}
-use Rattle.output.proofs.Output.put_text.Goals as goal
+use Rattle.output.proofs.Writer.put_text.Goals as goal
 
 pub returns-then-used-size : goal.returns-then-used-size
 returns-then-used-size c = record {
