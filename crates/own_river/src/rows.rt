@@ -8,7 +8,8 @@ use sheet::fields::{row_concentration, row_count, row_start};
 pub fn upstream_at(sheet: &[u8], j: u32) -> u32
     ensures { result ≡ rows_upstream sheet.now j }
 {
-    for row in (0..row_count(sheet) as usize).rev() {
+    for r in (1..=row_count(sheet)).rev() {
+        let row = r as usize - 1;
         if row_start(sheet, row) <= j {
             return row_concentration(sheet, row);
         }
